@@ -18,7 +18,7 @@ use Rattle.lb_world.specs.History.{History, RegistryMade, Made, Work, is_at, mem
 use Rattle.lb_world.specs.History.{registries, gates, made, made_at, config, registry_of, entries, group_at, works_at, worked, work, ended}
 use Rattle.lb_world.specs.History.{happened, slot_events, past, gate_in, is_grant, is_failure, is_destruction, is_out, load_of}
 use Rattle.lb_world.specs.Shared.{settings_in, is_live, configs_in, view_in, key_in, registry_made, registry_in, registry_at, let_go}
-use Rattle.lb_world.specs.Shared.{extra_at, changed, registry_events, events_in, key_of, cells_of}
+use Rattle.lb_world.specs.Shared.{extra_at, changed, registry_events, events_in, key_of}
 use Rattle.lb_world.specs.GroupEvents.{cells_for, group_after_step, group_events, view_events, views_in}
 use Rattle.lb_world.specs.History.{count_on}
 use Rattle.lb_world.specs.Refused.{TellsAlike}
@@ -84,10 +84,6 @@ module _ {C : Type 0} where
   changed-kept h now (step.update g at ls) r events = refl
   changed-kept h now st r events = refl
 
-  cells-kept : (h : History C) (st : Step C) (r : Refusal) (g n : ℕ) → cells_of g n ((st, answer.Refused r) ∷ h) ≡ cells_of g n h
-  cells-kept h (step.update i at ls) r g n = refl
-  cells-kept h st r g n = refl
-
   loads-kept : (h : History C) (st : Step C) (r : Refusal) (g : ℕ) (b : Member)
       → load_of g b ((st, answer.Refused r) ∷ h) ≡ load_of g b h
   loads-kept h (step.load i (Some c) load) r g b = refl
@@ -123,13 +119,11 @@ module _ {C : Type 0} where
                   λ g s.
                   ap (λ (w : Work). cond (works_at g s st) w (work g s h)) (worked-kept st r (work g s h))
                   ∙ same-either (works_at g s st) (work g s h);
-              views = λ g. ap2 views_in (ap (λ (ms : List (Made C)). slice_get ms g) (made-kept h st r)) (joins-kept h st r g);
               shared =
                   λ i.
                   ap (λ (es : List registry.Event). cond (is_at i (registry_at h st)) es (registry_events i h))
                   (changed-kept h ((st, answer.Refused r) ∷ h) st r (registry_events i h))
                   ∙ same-either (is_at i (registry_at h st)) (registry_events i h);
-              cells = λ g n. cells-kept h st r g n;
               outs =
                   λ a.
                   out-kept (is_at a (gate_in h (group_at h st))) (is_grant st (answer.Refused r)) (is_failure st (answer.Refused r))
@@ -152,9 +146,7 @@ module _ {C : Type 0} where
               groups_made = sym e.rest.groups_made;
               readers = sym e.rest.readers;
               works = λ g s. sym (e.rest.works g s);
-              views = λ g. sym (e.rest.views g);
               shared = λ r. sym (e.rest.shared r);
-              cells = λ g n. sym (e.rest.cells g n);
               outs = λ a. sym (e.rest.outs a);
               grants = λ a. sym (e.rest.grants a);
               failures = λ a. sym (e.rest.failures a);
@@ -174,9 +166,7 @@ module _ {C : Type 0} where
               groups_made = e.rest.groups_made ∙ u.rest.groups_made;
               readers = e.rest.readers ∙ u.rest.readers;
               works = λ g s. e.rest.works g s ∙ u.rest.works g s;
-              views = λ g. e.rest.views g ∙ u.rest.views g;
               shared = λ r. e.rest.shared r ∙ u.rest.shared r;
-              cells = λ g n. e.rest.cells g n ∙ u.rest.cells g n;
               outs = λ a. e.rest.outs a ∙ u.rest.outs a;
               grants = λ a. e.rest.grants a ∙ u.rest.grants a;
               failures = λ a. e.rest.failures a ∙ u.rest.failures a;
@@ -194,6 +184,10 @@ module _ {C : Type 0} (k h : History C) (e : TellsAlike k h) where
 
   pub at-alike : (g : ℕ) → made_at g k ≡ made_at g h
   at-alike g = ap (λ (ms : List (Made C)). slice_get ms g) e.rest.groups_made
+
+  -- so are those of its view
+  pub views-alike : (g : ℕ) → view_events g k ≡ view_events g h
+  views-alike g = ap2 views_in (at-alike g) (e.joined g)
 
   pub config-alike : (g s : ℕ) → config g s k ≡ config g s h
   config-alike g s = ap (config_in s) (at-alike g)
@@ -302,9 +296,6 @@ module _ {C : Type 0} (k h : History C) (e : TellsAlike k h) where
       ∙ ap2 (λ (x : slots.History) (j : group.History). group_after_step h x j st a) (groups-alike g) (e.joined g))
       (e.joined g)
 
-  views-step : (st : Step C) (a : Answer) (g : ℕ) → view_events g ((st, a) ∷ k) ≡ view_events g ((st, a) ∷ h)
-  views-step st a g = ap2 views_in (ap (λ (ms : List (Made C)). slice_get ms g) (made-step st a)) (joined-step st a g)
-
   let-go-alike : (st : Step C) (a : Answer) (g n m : ℕ) (x y : List registry.Event) → n ≡ m → x ≡ y
       → let_go g n ((st, a) ∷ k) x ≡ let_go g m ((st, a) ∷ h) y
   let-go-alike st a g n m x y same events =
@@ -332,12 +323,6 @@ module _ {C : Type 0} (k h : History C) (e : TellsAlike k h) where
       ap3 (λ (o : Option ℕ) (v x : List registry.Event). cond (is_at r o) v x) (registry-at-alike st)
       (changed-alike st a (registry_events r k) ∙ ap (changed h ((st, a) ∷ h) st a) (e.rest.shared r)) (e.rest.shared r)
 
-  cells-step : (st : Step C) (a : Answer) (g n : ℕ) → cells_of g n ((st, a) ∷ k) ≡ cells_of g n ((st, a) ∷ h)
-  cells-step (step.update i now ls) (answer.Generation m) g n =
-      ap3 (λ (es : slots.History) (shown cells : List (Member × ℕ)). cond (i == g) (cond (slots.newest es + 1 == n) shown cells) cells)
-      (groups-alike g) (cells-for-alike g ls) (e.rest.cells g n)
-  cells-step st a g n = e.rest.cells g n
-
   outs-step : (st : Step C) (b : Answer) (a : ℕ) → is_out a ((st, b) ∷ k) ≡ is_out a ((st, b) ∷ h)
   outs-step st b a =
       ap2
@@ -364,9 +349,7 @@ module _ {C : Type 0} (k h : History C) (e : TellsAlike k h) where
               groups_made = made-step st a;
               readers = entries-step st a;
               works = works-step st a;
-              views = views-step st a;
               shared = shared-step st a;
-              cells = cells-step st a;
               outs = outs-step st a;
               grants = λ i. count-step is_grant st a i (e.rest.grants i);
               failures = λ i. count-step is_failure st a i (e.rest.failures i);

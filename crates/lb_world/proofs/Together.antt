@@ -1,7 +1,7 @@
 -- The events of a group are those of a group that is joined with its view, and to one that isn't made nothing has happened.
 use Rattle.std.proofs.Common.{◌≡◌, ◌⊎◌, inl, inr, ◌<◌, ◌==◌, ◌∙◌, ℕ, zero, suc, Bool, true, false, cond, List, [], ◌∷◌, ◌++◌, length}
 use Rattle.std.proofs.Common.{refl, sym, ap, arith}
-use Rattle.std.specs.Prelude.{Option, Some, None, slice_get}
+use Rattle.std.specs.Prelude.{Some, None, slice_get}
 use Rattle.std.proofs.lemmas.Bool.{eq-eqb, ne_eqb}
 use Rattle.std.proofs.lemmas.Option.{none-some, same_Some}
 use Rattle.lb_rebuild_core.specs.SlotsHistory as slots
@@ -15,7 +15,7 @@ use Rattle.lb_world.specs.declared.answer.Answer.{Answer}
 use Rattle.lb_world.specs.declared.answer.Answer.TheVariants as answer
 use Rattle.lb_world.specs.declared.step.Listing.{Listing}
 use Rattle.lb_world.specs.Meanings.{Meaning}
-use Rattle.lb_world.specs.History.{History, Made, is_at, members_in, drew, made, made_at, group_at, happened}
+use Rattle.lb_world.specs.History.{History, Made, is_at, members_in, made, made_at, group_at, happened}
 use Rattle.lb_world.specs.History.{slot_events}
 use Rattle.lb_world.specs.Shared.{settings_in}
 use Rattle.lb_world.specs.Answers.{IsRun, Answers, has_refused, refuse}
@@ -104,11 +104,6 @@ get-pushed (x ∷ xs) y z (suc i) e =
       | inl at ↦ inl ((let same : i ≡ length xs = at.0 in omega arith), at.1)
       | inr before ↦ inr ((let low : i < length xs = before.0 in omega arith), before.1)
     ]
-
-pub drawn-view : {C : Type 0} (o : Option C) (n s t : ℕ) (e : group.History)
-    → group.view_events n (in_group (drew o s t) ++ e) ≡ group.view_events n e
-drawn-view None n s t e = refl
-drawn-view (Some c) n s t e = refl
 
 -- the events of the view of a group that is made
 pub views-of : {C : Type 0} (g : ℕ) (h : History C) (m : Made C) → made_at g h ≡ Some m

@@ -1,5 +1,5 @@
 -- What a history did to a group and to its view, in the words of a group that is joined with its view.
-use Rattle.std.specs.Prelude.{◌≡◌, ℕ, true, false, List, [], ◌∷◌, ◌++◌, length, Option, Some, None, if◌then◌else◌}
+use Rattle.std.specs.Prelude.{◌≡◌, ℕ, ◌+◌, ◌==◌, true, false, List, [], ◌∷◌, ◌++◌, length, Option, Some, None, if◌then◌else◌}
 use Rattle.lb_select_base.specs.Backends.{Member}
 use Rattle.lb_health_core.specs.RegistryEvents.{shown_cells}
 use Rattle.lb_health_view.specs.ViewEvents.{ViewEvent}
@@ -14,6 +14,14 @@ use Rattle.lb_world.specs.declared.answer.Answer.TheVariants as answer
 use Rattle.lb_world.specs.declared.step.Listing.{Listing}
 use Rattle.lb_world.specs.History.{History, Made, is_at, members_in, made_at, registry_of, group_at, happened, slot_events}
 use Rattle.lb_world.specs.Shared.{settings_in, view_in, key_of, events_in}
+
+-- the cells of generation n, as the events of a group with its view tell them
+abbrev pub cells_in : ℕ → group.History → List (Member × ℕ)
+cells_in n [] = []
+cells_in n (Shown ms cells now ∷ e) = if slots.newest (group.slot_events e) + 1 == n then cells else cells_in n e
+cells_in n (Set b on ∷ e) = cells_in n e
+cells_in n (group.Cancelled ∷ e) = cells_in n e
+cells_in n (group.At i x ∷ e) = cells_in n e
 
 module _ {C : Type 0} where
   -- the cells that the members of an update get when they are shown
@@ -34,6 +42,10 @@ module _ {C : Type 0} where
   group_events g [] = []
   group_events g ((st, a) ∷ h) =
       if is_at g (group_at h st) then group_after_step h (slot_events g h) (group_events g h) st a else group_events g h
+
+  -- the cells that the backends of generation n had when it was shown
+  abbrev pub cells_of : ℕ → ℕ → History C → List (Member × ℕ)
+  cells_of g n h = cells_in n (group_events g h)
 
   -- the view's events are among them: none before the group is made, and then those that its slots and its memberships give
   abbrev pub views_in : Option (Made C) → group.History → List ViewEvent

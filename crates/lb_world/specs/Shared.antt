@@ -114,15 +114,3 @@ module _ {C : Type 0} where
 
   abbrev pub key_of : ℕ → History C → Member → Member
   key_of g h = key_in (registry_made (registry_of g h) h)
-
-  -- the cells that the backends of generation n had when it was shown
-  abbrev pub cells_of : ℕ → ℕ → History C → List (Member × ℕ)
-  cells_of g n [] = []
-  cells_of g n ((step.update at now listings, answer.Generation m) ∷ h) =
-      if at == g
-      then
-      if slots.newest (slot_events g h) + 1 == n
-      then registry.shown_cells (key_of g h) (view_in (made_at g h)) (members_in listings) (events_in (registry_of g h) h)
-      else cells_of g n h
-      else cells_of g n h
-  cells_of g n ((st, a) ∷ h) = cells_of g n h
