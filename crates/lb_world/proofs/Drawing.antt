@@ -1,5 +1,5 @@
 -- A selection that memory was refused to has drawn few tickets, and changed nothing but their counter.
-use Rattle.std.proofs.Common.{◌≡◌, inl, inr, ◌≤◌, ◌+◌, ◌*◌, ◌/◌, ◌%◌, ◌^◌, ◌==◌, ◌&&◌, ◌∙◌, ℕ, Bool, true, false, cond, List, [], ◌∷◌, ◌++◌}
+use Rattle.std.proofs.Common.{◌≡◌, inl, inr, ◌≤◌, ◌+◌, ◌*◌, ◌/◌, ◌%◌, ◌^◌, ◌==◌, ◌&&◌, ◌∙◌, ℕ, Bool, true, false, cond, List, [], ◌∷◌}
 use Rattle.std.proofs.Common.{length, refl, sym, ap, subst, arith}
 use Rattle.std.proofs.Math.Nat.{mod-add-div, add-mul-mod_self_left}
 use Rattle.std.specs.Prelude.{max, nat_le, Option, Some, None, Result, Ok, Err, slice_get, MatchBool, MatchOption}
@@ -25,7 +25,7 @@ use Rattle.lb_world.specs.Refused.{DrewAlone, RefusedStays}
 use Rattle.lb_world.proofs.Unrefused.{as-before}
 use Rattle.lb_world.proofs.Placing.{same-either}
 use Rattle.lb_world.proofs.Refusing.{ap2, none-more}
-use Rattle.lb_world.proofs.Together.{group-of}
+use Rattle.lb_world.proofs.Own.{group-of}
 
 -- what was drawn at a slot is the group's own alone: its view has none of it, and no generation's cells are others
 module _ {C : Type 0} {h now : History C} {g s limit t : ℕ} (d : DrewAlone h now g s limit t) where
@@ -161,7 +161,7 @@ module _ {C : Type 0} (M : Meaning C) (few : DrawsFew M) (h : History C) (g s : 
         few = x.1.1;
         counter = x.1.2;
         joined =
-            λ i. ap (λ (o : Option C). cond (g == i) (group.in_group (drew o s t) ++ group_events i h) (group_events i h)) x.0.1;
+            λ i. ap (λ (o : Option C). cond (g == i) (drew o s t (group_events i h)) (group_events i h)) x.0.1;
         rest =
             record {
               registries_made = refl;

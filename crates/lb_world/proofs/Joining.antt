@@ -18,7 +18,8 @@ use Rattle.lb_world.specs.Shared.{key_of, events_in}
 use Rattle.lb_world.specs.GroupEvents.{group_events, cells_in, cells_of, view_events, views_in}
 use Rattle.lb_world.specs.Answers.{IsRun}
 use Rattle.lb_world.specs.Promises.{ViewFollows, JudgedBy}
-use Rattle.lb_world.proofs.Together.{group-of, nothing-joined}
+use Rattle.lb_world.proofs.Together.{nothing-joined}
+use Rattle.lb_world.proofs.Own.{group-of}
 use Rattle.lb_world.proofs.Viewing.{Fits, Follows, joined-follows, found-one}
 
 module _ {C : Type 0} where

@@ -16,14 +16,14 @@ use Rattle.lb_world.specs.declared.answer.Answer.{Answer}
 use Rattle.lb_world.specs.declared.answer.Answer.TheVariants as answer
 use Rattle.lb_world.specs.History.{History, RegistryMade, Made, Work, is_at, members_in, group_in, slot_in, over, config_in, drew}
 use Rattle.lb_world.specs.History.{registries, gates, made, made_at, config, registry_of, entries, group_at, works_at, worked, work, ended}
-use Rattle.lb_world.specs.History.{happened, slot_events, past, gate_in, is_grant, is_failure, is_destruction, is_out, load_of}
-use Rattle.lb_world.specs.Shared.{settings_in, is_live, configs_in, view_in, key_in, registry_made, registry_in, registry_at, let_go}
+use Rattle.lb_world.specs.History.{slot_events, past, gate_in, is_grant, is_failure, is_destruction, is_out, load_of}
+use Rattle.lb_world.specs.History.{count_on, settings_in, job_members, joined_step}
+use Rattle.lb_world.specs.Shared.{is_live, configs_in, view_in, key_in, registry_made, registry_in, registry_at, let_go}
 use Rattle.lb_world.specs.Shared.{extra_at, changed, registry_events, events_in, key_of}
-use Rattle.lb_world.specs.GroupEvents.{cells_for, group_after_step, group_events, view_events, views_in}
-use Rattle.lb_world.specs.History.{count_on}
+use Rattle.lb_world.specs.GroupEvents.{cells_for, group_events, view_events, views_in}
 use Rattle.lb_world.specs.Refused.{TellsAlike}
 use Rattle.lb_world.proofs.Placing.{same-either}
-use Rattle.lb_world.proofs.Together.{group-of}
+use Rattle.lb_world.proofs.Own.{group-of}
 
 pub ap2 {ℓ} : {A B : Type 0} {D : Type ℓ} (f : A → B → D) {a c : A} {b d : B} → a ≡ c → b ≡ d → f a b ≡ f c d
 ap2 f {a = a} {d = d} e u = ap (f a) u ∙ ap (λ x. f x d) e
@@ -63,20 +63,14 @@ module _ {C : Type 0} where
   worked-kept (step.ask g s now) r w = refl
   worked-kept st r w = refl
 
-  happened-kept : (h : History C) (k : slots.History) (st : Step C) (r : Refusal) → happened h k st (answer.Refused r) ≡ []
-  happened-kept h k (step.ask g s now) r = refl
-  happened-kept h k st r = refl
-
-  joined-kept : (h : History C) (k : slots.History) (e : group.History) (st : Step C) (r : Refusal)
-      → group_after_step h k e st (answer.Refused r) ≡ e
-  joined-kept h k e (step.enable g (Some b)) r = refl
-  joined-kept h k e (step.disable g (Some b)) r = refl
-  joined-kept h k e st r = refl
+  joined-kept : (h : History C) (e : group.History) (st : Step C) (r : Refusal) → joined_step cells_for h e st (answer.Refused r) ≡ e
+  joined-kept h e (step.enable g (Some b)) r = refl
+  joined-kept h e (step.disable g (Some b)) r = refl
+  joined-kept h e st r = refl
 
   joins-kept : (h : History C) (st : Step C) (r : Refusal) (g : ℕ) → group_events g ((st, answer.Refused r) ∷ h) ≡ group_events g h
   joins-kept h st r g =
-      ap (λ (es : group.History). cond (is_at g (group_at h st)) es (group_events g h))
-      (joined-kept h (slot_events g h) (group_events g h) st r)
+      ap (λ (es : group.History). cond (is_at g (group_at h st)) es (group_events g h)) (joined-kept h (group_events g h) st r)
       ∙ same-either (is_at g (group_at h st)) (group_events g h)
 
   changed-kept : (h now : History C) (st : Step C) (r : Refusal) (events : List registry.Event)
@@ -238,20 +232,6 @@ module _ {C : Type 0} (k h : History C) (e : TellsAlike k h) where
   gate-alike st = gate-in (group_at k st) ∙ ap (gate_in h) (group-at-alike st)
 
   -- What a step does after both, by its answer.
-  happened-alike : (st : Step C) (a : Answer) (x : slots.History) → happened k x st a ≡ happened h x st a
-  happened-alike (step.publish g s) (answer.Published n) x =
-      ap (λ (w : Work). slots.At s (slots.Published (ended w) (slots.granted_members (slots.past_of s x))) ∷ []) (e.rest.works g s)
-  happened-alike (step.leave t) (answer.Left n) x = ap (λ es. slots.At (slot_in (slice_get es t)) (slots.Left n) ∷ []) e.rest.readers
-  happened-alike (step.select g s key limit words) (answer.Backend b t) x = ap (λ (o : Option C). drew o s t) (config-alike g s)
-  happened-alike (step.select g s key limit words) (answer.NoBackend t) x = ap (λ (o : Option C). drew o s t) (config-alike g s)
-  happened-alike (step.select g s key limit words) (answer.NotSelected t) x = ap (λ (o : Option C). drew o s t) (config-alike g s)
-  happened-alike st a x = refl
-
-  groups-step : (st : Step C) (a : Answer) (g : ℕ) → slot_events g ((st, a) ∷ k) ≡ slot_events g ((st, a) ∷ h)
-  groups-step st a g =
-      ap3 (λ (o : Option ℕ) (es x : slots.History). cond (is_at g o) (es ++ x) x) (group-at-alike st)
-      (happened-alike st a (slot_events g k) ∙ ap (λ (x : slots.History). happened h x st a) (groups-alike g)) (groups-alike g)
-
   made-step : (st : Step C) (a : Answer) → made ((st, a) ∷ k) ≡ made ((st, a) ∷ h)
   made-step (step.group r b configs) (answer.Group n) =
       ap (λ (ms : List (Made C)). ms ++ record { registry = r; gate = b; view = over r ms + 1; configs = configs } ∷ []) e.rest.groups_made
@@ -280,21 +260,27 @@ module _ {C : Type 0} (k h : History C) (e : TellsAlike k h) where
       ap3 (λ (key : Member → Member) (v : ℕ) (es : List registry.Event). registry.shown_cells key v (members_in ls) es)
       (key-alike g) (ap view_in (at-alike g)) (events-alike g)
 
-  joined-alike : (st : Step C) (a : Answer) (x : slots.History) (j : group.History)
-      → group_after_step k x j st a ≡ group_after_step h x j st a
-  joined-alike (step.update g now ls) (answer.Generation n) x j =
+  joined-alike : (st : Step C) (a : Answer) (j : group.History) → joined_step cells_for k j st a ≡ joined_step cells_for h j st a
+  joined-alike (step.update g now ls) (answer.Generation n) j =
       ap (λ cs. group.after_settings (settings_in ls) (group.Shown (members_in ls) cs now ∷ j)) (cells-for-alike g ls)
-  joined-alike (step.update g now ls) (answer.Same n) x j = refl
-  joined-alike (step.enable g (Some b)) answer.Done x j = refl
-  joined-alike (step.disable g (Some b)) answer.Done x j = refl
-  joined-alike st a x j = ap (λ (es : slots.History). group.in_group es ++ j) (happened-alike st a x)
+  joined-alike (step.publish g s) (answer.Published n) j =
+      ap (λ (w : Work). group.At s (slots.Published (ended w) (job_members s j)) ∷ j) (e.rest.works g s)
+  joined-alike (step.leave t) (answer.Left n) j = ap (λ es. group.At (slot_in (slice_get es t)) (slots.Left n) ∷ j) e.rest.readers
+  joined-alike (step.select g s key limit words) (answer.Backend b t) j =
+      ap (λ (o : Option C). drew o s t j) (config-alike g s)
+  joined-alike (step.select g s key limit words) (answer.NoBackend t) j =
+      ap (λ (o : Option C). drew o s t j) (config-alike g s)
+  joined-alike (step.select g s key limit words) (answer.NotSelected t) j =
+      ap (λ (o : Option C). drew o s t j) (config-alike g s)
+  joined-alike st a j = refl
 
-  joined-step : (st : Step C) (a : Answer) (g : ℕ) → group_events g ((st, a) ∷ k) ≡ group_events g ((st, a) ∷ h)
-  joined-step st a g =
+  joined-now : (st : Step C) (a : Answer) (g : ℕ) → group_events g ((st, a) ∷ k) ≡ group_events g ((st, a) ∷ h)
+  joined-now st a g =
       ap3 (λ (o : Option ℕ) (v x : group.History). cond (is_at g o) v x) (group-at-alike st)
-      (joined-alike st a (slot_events g k) (group_events g k)
-      ∙ ap2 (λ (x : slots.History) (j : group.History). group_after_step h x j st a) (groups-alike g) (e.joined g))
-      (e.joined g)
+      (joined-alike st a (group_events g k) ∙ ap (λ (j : group.History). joined_step cells_for h j st a) (e.joined g)) (e.joined g)
+
+  groups-step : (st : Step C) (a : Answer) (g : ℕ) → slot_events g ((st, a) ∷ k) ≡ slot_events g ((st, a) ∷ h)
+  groups-step st a g = sym (group-of g ((st, a) ∷ k)) ∙ ap group.slot_events (joined-now st a g) ∙ group-of g ((st, a) ∷ h)
 
   let-go-alike : (st : Step C) (a : Answer) (g n m : ℕ) (x y : List registry.Event) → n ≡ m → x ≡ y
       → let_go g n ((st, a) ∷ k) x ≡ let_go g m ((st, a) ∷ h) y
@@ -356,5 +342,5 @@ module _ {C : Type 0} (k h : History C) (e : TellsAlike k h) where
               destructions = λ i. count-step is_destruction st a i (e.rest.destructions i);
               loads = loads-step st a;
             };
-        joined = joined-step st a;
+        joined = joined-now st a;
       }
