@@ -13,13 +13,14 @@ use Rattle.lb_world.specs.Steps as step
 use Rattle.lb_world.specs.declared.answer.Answer.{Answer}
 use Rattle.lb_world.specs.declared.answer.Answer.TheVariants as answer
 use Rattle.lb_world.specs.Meanings.{Meaning}
-use Rattle.lb_world.specs.History.{History, Made, Entered, Work, idle, building, built, is_at, group_in, slot_in, config_in, config, drew}
-use Rattle.lb_world.specs.History.{made, made_at, group_at, works_at, worked, work, happened, slot_events, past}
+use Rattle.lb_world.specs.History.{History, Made, Entered, Work, idle, building, built, is_at, group_in, slot_in, config_in, config}
+use Rattle.lb_world.specs.History.{made, made_at, group_at, works_at, worked, work, slot_events, past}
 use Rattle.lb_world.specs.Answers.{IsRun, without_memory, has_refused, at_one}
 use Rattle.lb_world.specs.Promises.{Untouched}
 use Rattle.lb_world.proofs.Placing.{same-either}
 use Rattle.lb_world.proofs.Accepted.{there, right-is, granting, leaving, unrefused-address, right_answer}
 use Rattle.lb_world.proofs.Runs.{reading}
+use Rattle.lb_world.proofs.Own.{drew, happened, own_after, own-step}
 
 -- an answer that is no refusal
 abbrev pub is_refusal : Answer → Bool
@@ -62,8 +63,13 @@ module _ {C : Type 0} where
   works-on h g i m there none was b w s =
       beyond (g == i) b w (work i s h) (ne_eqb g i (apart-from g i h m there none)) ∙ was.works s
 
+  -- a step leaves a group untouched
+  record Leaves (i : ℕ) (h : History C) (st : Step C) (a : Answer) : Type 0 where
+    events : own_after i h st a ≡ []
+    works : (s : ℕ) → work i s ((st, a) ∷ h) ≡ idle
+
   quiet : (h : History C) (st : Step C) (a : Answer) (i : ℕ) → Untouched i h → happened h (slot_events i h) st a ≡ []
-      → ((w : Work) → worked st a w ≡ w) → Untouched i ((st, a) ∷ h)
+      → ((w : Work) → worked st a w ≡ w) → Leaves i h st a
   quiet h st a i was none kept =
       record {
         events = ap (λ (es : slots.History). cond (is_at i (group_at h st)) (es ++ slot_events i h) (slot_events i h)) none
@@ -92,59 +98,59 @@ module _ {C : Type 0} (M : Meaning C) where
   nobody n h i s was some =
       let none : readers n (past i s h) ≡ 0 = ap (λ (k : slots.History). readers n (past_of s k)) was.events in omega arith
 
-  pub absent : (h : History C) → IsRun M h → (i : ℕ) → made_at i h ≡ None → Untouched i h
-  absent [] run i none = record { events = refl; works = λ s. refl }
-  absent ((step.group r a cs, answer.Group n) ∷ h) run i none =
-      let was = absent h run.0 i (get-front (made h) _ i none) in record { events = was.events; works = was.works }
-  absent ((step.update g now ls, answer.Generation n) ∷ h) run i none =
-      let was = absent h run.0 i none in
+  absent-step : (h : History C) (st : Step C) (a : Answer) → IsRun M ((st, a) ∷ h)
+      → ((i : ℕ) → made_at i h ≡ None → Untouched i h) → (i : ℕ) → made_at i ((st, a) ∷ h) ≡ None → Leaves i h st a
+  absent-step h (step.group r a cs) (answer.Group n) run before i none =
+      let was = before i (get-front (made h) _ i none) in record { events = was.events; works = was.works }
+  absent-step h (step.update g now ls) (answer.Generation n) run before i none =
+      let was = before i none in
       let told = right-is {C = C} (step.update g now ls) (right_answer M h (step.update g now ls)) (answer.Generation n) run.1 refl in
       let m = there (made_at g h) _ (answer.Generation n) (unrefused-address (has_refused ls) _ n told) refl in
       record { events = elsewhere h g i m.0 m.1.0 none was _; works = was.works }
-  absent ((step.ask g s now, answer.Build n) ∷ h) run i none =
-      let was = absent h run.0 i none in
+  absent-step h (step.ask g s now) (answer.Build n) run before i none =
+      let was = before i none in
       let m = granting M h g s now n run.1 in
       record {
         events = elsewhere h g i m.made_by m.made_is none was _;
         works = λ q. works-on h g i m.made_by m.made_is none was (s == q) building q;
       }
-  absent ((step.build g s now, answer.Built n) ∷ h) run i none =
-      let was = absent h run.0 i none in
+  absent-step h (step.build g s now) (answer.Built n) run before i none =
+      let was = before i none in
       let m = at-config h (step.build g s now) g s _ (answer.Built n) refl run.1 in
       record {
         events = elsewhere h g i m.0 m.1 none was (slot_events i h);
         works = λ q. works-on h g i m.0 m.1 none was (s == q) (built now) q;
       }
-  absent ((step.build g s now, answer.BuildFailed n e) ∷ h) run i none =
-      let was = absent h run.0 i none in
+  absent-step h (step.build g s now) (answer.BuildFailed n e) run before i none =
+      let was = before i none in
       let m = at-config h (step.build g s now) g s _ (answer.BuildFailed n e) refl run.1 in
       record { events = elsewhere h g i m.0 m.1 none was _; works = λ q. works-on h g i m.0 m.1 none was (s == q) idle q }
-  absent ((step.failbuild g s now, answer.Failed n) ∷ h) run i none =
-      let was = absent h run.0 i none in
+  absent-step h (step.failbuild g s now) (answer.Failed n) run before i none =
+      let was = before i none in
       let m = at-config h (step.failbuild g s now) g s _ (answer.Failed n) refl run.1 in
       record { events = elsewhere h g i m.0 m.1 none was _; works = λ q. works-on h g i m.0 m.1 none was (s == q) idle q }
-  absent ((step.lost g s, answer.Lost n) ∷ h) run i none =
-      let was = absent h run.0 i none in
+  absent-step h (step.lost g s) (answer.Lost n) run before i none =
+      let was = before i none in
       let m = at-config h (step.lost g s) g s _ (answer.Lost n) refl run.1 in
       record { events = elsewhere h g i m.0 m.1 none was _; works = was.works }
-  absent ((step.publish g s, answer.Published n) ∷ h) run i none =
-      let was = absent h run.0 i none in
+  absent-step h (step.publish g s) (answer.Published n) run before i none =
+      let was = before i none in
       let m = at-config h (step.publish g s) g s _ (answer.Published n) refl run.1 in
       record { events = elsewhere h g i m.0 m.1 none was _; works = λ q. works-on h g i m.0 m.1 none was (s == q) idle q }
-  absent ((step.publish g s, answer.Abandoned n) ∷ h) run i none =
-      let was = absent h run.0 i none in
+  absent-step h (step.publish g s) (answer.Abandoned n) run before i none =
+      let was = before i none in
       let m = at-config h (step.publish g s) g s _ (answer.Abandoned n) refl run.1 in
       record { events = elsewhere h g i m.0 m.1 none was _; works = λ q. works-on h g i m.0 m.1 none was (s == q) idle q }
-  absent ((step.abandon g s, answer.Abandoned n) ∷ h) run i none =
-      let was = absent h run.0 i none in
+  absent-step h (step.abandon g s) (answer.Abandoned n) run before i none =
+      let was = before i none in
       let m = at-config h (step.abandon g s) g s _ (answer.Abandoned n) refl run.1 in
       record { events = elsewhere h g i m.0 m.1 none was _; works = λ q. works-on h g i m.0 m.1 none was (s == q) idle q }
-  absent ((step.enter g s, answer.Reader t n) ∷ h) run i none =
-      let was = absent h run.0 i none in
+  absent-step h (step.enter g s) (answer.Reader t n) run before i none =
+      let was = before i none in
       let m = at-config h (step.enter g s) g s _ (answer.Reader t n) refl run.1 in
       record { events = elsewhere h g i m.0 m.1 none was _; works = was.works }
-  absent ((step.leave t, answer.Left n) ∷ h) run i none =
-      let was = absent h run.0 i none in
+  absent-step h (step.leave t) (answer.Left n) run before i none =
+      let was = before i none in
       let l = leaving M h t n run.1 in
       let e : Entered = l.0 in
       let some = reading M h run.0 t n e l.1.0 l.1.1 in
@@ -158,18 +164,23 @@ module _ {C : Type 0} (M : Meaning C) where
             (ap (λ (b : Bool). cond b (At e.slot (slots.Left n) ∷ slot_events i h) (slot_events i h)) (ne_eqb e.group i off) ∙ was.events);
         works = was.works;
       }
-  absent ((step.destroy g s, answer.Destroyed) ∷ h) run i none =
-      let was = absent h run.0 i none in
+  absent-step h (step.destroy g s) answer.Destroyed run before i none =
+      let was = before i none in
       let m = at-config h (step.destroy g s) g s _ answer.Destroyed refl run.1 in
       record { events = elsewhere h g i m.0 m.1 none was _; works = was.works }
-  absent ((step.select g s key limit words, answer.Backend b t) ∷ h) run i none =
-      let was = absent h run.0 i none in record { events = drawn h g s t i was none; works = was.works }
-  absent ((step.select g s key limit words, answer.NoBackend t) ∷ h) run i none =
-      let was = absent h run.0 i none in record { events = drawn h g s t i was none; works = was.works }
-  absent ((step.select g s key limit words, answer.NotSelected t) ∷ h) run i none =
-      let was = absent h run.0 i none in record { events = drawn h g s t i was none; works = was.works }
-  absent ((step.cancel g, answer.Cancelled) ∷ h) run i none =
-      let was = absent h run.0 i none in
+  absent-step h (step.select g s key limit words) (answer.Backend b t) run before i none =
+      let was = before i none in record { events = drawn h g s t i was none; works = was.works }
+  absent-step h (step.select g s key limit words) (answer.NoBackend t) run before i none =
+      let was = before i none in record { events = drawn h g s t i was none; works = was.works }
+  absent-step h (step.select g s key limit words) (answer.NotSelected t) run before i none =
+      let was = before i none in record { events = drawn h g s t i was none; works = was.works }
+  absent-step h (step.cancel g) answer.Cancelled run before i none =
+      let was = before i none in
       let m = found {C = C} (step.cancel g) (made_at g h) _ answer.Cancelled refl run.1 in
       record { events = elsewhere h g i m.0 m.1 none was _; works = was.works }
-  absent ((st, a) ∷ h) run i none = quiet h st a i (absent h run.0 i none) refl (λ w. refl)
+  absent-step h st a run before i none = quiet h st a i (before i none) refl (λ w. refl)
+
+  pub absent : (h : History C) → IsRun M h → (i : ℕ) → made_at i h ≡ None → Untouched i h
+  absent [] run i none = record { events = refl; works = λ s. refl }
+  absent ((st, a) ∷ h) run i none =
+      let now = absent-step h st a run (absent h run.0) i none in record { events = own-step i h st a ∙ now.events; works = now.works }

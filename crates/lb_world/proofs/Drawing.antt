@@ -1,5 +1,5 @@
 -- A selection that memory was refused to has drawn few tickets, and changed nothing but their counter.
-use Rattle.std.proofs.Common.{◌≡◌, inl, inr, ◌≤◌, ◌+◌, ◌*◌, ◌/◌, ◌%◌, ◌^◌, ◌==◌, ◌&&◌, ◌∙◌, ℕ, Bool, true, false, cond, List, [], ◌∷◌, ◌++◌}
+use Rattle.std.proofs.Common.{◌≡◌, inl, inr, ◌≤◌, ◌+◌, ◌*◌, ◌/◌, ◌%◌, ◌^◌, ◌==◌, ◌&&◌, ◌∙◌, ℕ, Bool, true, false, cond, List, [], ◌∷◌}
 use Rattle.std.proofs.Common.{length, refl, sym, ap, subst, arith}
 use Rattle.std.proofs.Math.Nat.{mod-add-div, add-mul-mod_self_left}
 use Rattle.std.specs.Prelude.{max, nat_le, Option, Some, None, Result, Ok, Err, slice_get, MatchBool, MatchOption}
@@ -15,24 +15,48 @@ use Rattle.lb_world.specs.Steps as step
 use Rattle.lb_world.specs.declared.answer.Answer.{Answer}
 use Rattle.lb_world.specs.declared.answer.Answer.TheVariants as answer
 use Rattle.lb_world.specs.Meanings.{Meaning}
-use Rattle.lb_world.specs.History.{History, Made, is_at, config, config_in, drew, made_at, gate_of, slot_events, past, is_grant, is_failure}
+use Rattle.lb_world.specs.History.{History, Made, is_at, config_in, drew, made_at, gate_of, slot_events, past, is_grant, is_failure}
 use Rattle.lb_world.specs.History.{is_destruction, is_out, load_of}
 use Rattle.lb_world.specs.Shared.{registry_at, registry_events}
-use Rattle.lb_world.specs.GroupEvents.{group_events, views_in}
+use Rattle.lb_world.specs.GroupEvents.{group_events, cells_in, cells_of, view_events, views_in}
 use Rattle.lb_world.specs.History.{count_on}
 use Rattle.lb_world.specs.Answers.{IsRun, SelectAnswers, SelectsIn, Judges, refuse, selected}
 use Rattle.lb_world.specs.Refused.{DrewAlone, RefusedStays}
 use Rattle.lb_world.proofs.Unrefused.{as-before}
 use Rattle.lb_world.proofs.Placing.{same-either}
-use Rattle.lb_world.proofs.Refusing.{none-more}
-use Rattle.lb_world.proofs.Together.{drawn-view}
+use Rattle.lb_world.proofs.Refusing.{ap2, none-more}
+use Rattle.lb_world.proofs.Own.{group-of}
 
--- what was drawn at a slot is nothing to the view of its group
-drawn-views : {C : Type 0} (m : Option (Made C)) (b : Bool) (o : Option C) (s t : ℕ) (e : group.History)
-    → views_in m (cond b (group.in_group (drew o s t) ++ e) e) ≡ views_in m e
-drawn-views None b o s t e = refl
-drawn-views (Some m) true o s t e = drawn-view o (length m.configs) s t e
-drawn-views (Some m) false o s t e = refl
+-- what was drawn at a slot is the group's own alone: its view has none of it, and no generation's cells are others
+module _ {C : Type 0} {h now : History C} {g s limit t : ℕ} (d : DrewAlone h now g s limit t) where
+  pub own-drawn : (i : ℕ) → slot_events i now ≡ cond (g == i) (slots.At s (slots.Drew t) ∷ slot_events i h) (slot_events i h)
+  own-drawn i =
+      sym (group-of i now) ∙ ap group.slot_events (d.joined i)
+      ∙ either-events (g == i) ∙ ap (λ (k : slots.History). cond (g == i) (slots.At s (slots.Drew t) ∷ k) k) (group-of i h)
+    where
+      either-events : (b : Bool) → group.slot_events (cond b (group.At s (slots.Drew t) ∷ group_events i h) (group_events i h))
+          ≡ cond b (slots.At s (slots.Drew t) ∷ group.slot_events (group_events i h)) (group.slot_events (group_events i h))
+      either-events true = refl
+      either-events false = refl
+
+  pub views-kept : (i : ℕ) → view_events i now ≡ view_events i h
+  views-kept i =
+      ap2 views_in (ap (λ (ms : List (Made C)). slice_get ms i) d.rest.groups_made) (d.joined i)
+      ∙ either-views (made_at i h) (g == i)
+    where
+      either-views : (m : Option (Made C)) (b : Bool)
+          → views_in m (cond b (group.At s (slots.Drew t) ∷ group_events i h) (group_events i h)) ≡ views_in m (group_events i h)
+      either-views None b = refl
+      either-views (Some m) true = refl
+      either-views (Some m) false = refl
+
+  pub cells-kept : (i n : ℕ) → cells_of i n now ≡ cells_of i n h
+  cells-kept i n = ap (cells_in n) (d.joined i) ∙ either-cells (g == i)
+    where
+      either-cells : (b : Bool) → cells_in n (cond b (group.At s (slots.Drew t) ∷ group_events i h) (group_events i h))
+          ≡ cells_in n (group_events i h)
+      either-cells true = refl
+      either-cells false = refl
 
 -- the counter goes on by as many tickets as were drawn
 further : (s m u whole : ℕ) → u + whole ≡ s + 1 → s + (m + 1) ≡ u + m + whole
@@ -136,8 +160,8 @@ module _ {C : Type 0} (M : Meaning C) (few : DrawsFew M) (h : History C) (g s : 
         tickets = x.1.0;
         few = x.1.1;
         counter = x.1.2;
-        groups =
-            λ i. ap (λ (o : Option C). cond (g == i) (drew o s t ++ slot_events i h) (slot_events i h)) x.0.1;
+        joined =
+            λ i. ap (λ (o : Option C). cond (g == i) (drew o s t (group_events i h)) (group_events i h)) x.0.1;
         rest =
             record {
               registries_made = refl;
@@ -145,9 +169,7 @@ module _ {C : Type 0} (M : Meaning C) (few : DrawsFew M) (h : History C) (g s : 
               groups_made = refl;
               readers = refl;
               works = λ i r. refl;
-              views = λ i. drawn-views (made_at i h) (g == i) (config g s h) s t (group_events i h);
               shared = λ r. same-either (is_at r (registry_at h (step.select g s key limit words))) (registry_events r h);
-              cells = λ i n. refl;
               outs = λ a. same-either (is_at a (gate_of g h)) (is_out a h);
               grants = λ a. none-more (count_on is_grant a h);
               failures = λ a. none-more (count_on is_failure a h);

@@ -15,7 +15,7 @@ use Rattle.lb_world.proofs.Placing.{here, same-either}
 use Rattle.lb_world.proofs.Runs.{under_way}
 use Rattle.lb_world.proofs.Together.{views-of}
 use Rattle.lb_world.specs.Answers.{flight_of, asked, built_or_failed, destroy_refusal, of_built, of_job}
-use Rattle.lb_world.specs.History.{drew, gate_of, is_grant, is_held}
+use Rattle.lb_world.specs.History.{gate_of, is_grant, is_held}
 use Rattle.lb_world.specs.Shared.{registry_in, registry_made, extra_at}
 use Rattle.lb_world.specs.Internal.Calls.{IsUngranted, told_as}
 use Rattle.lb_world.specs.Stands.{AreHeld}
@@ -42,7 +42,8 @@ use Rattle.lb_world.proofs.Words.{registries}
 use Rattle.lb_world.proofs.Words.{registry_at, registry_events, registry_of, RegistryValue, same_Some, shares, site, slice_get}
 use Rattle.lb_world.proofs.Words.{slice_get_past, slice_get_within, slice_set, slots-fit, Some, Step, subst, sym, Task, there-at, true}
 use Rattle.lb_world.proofs.Words.{unless_refused, view_events, views_of, with_core, without_memory, Work, work, worked, works_at, WorkValue}
-use Rattle.lb_world.proofs.Words.{WorldRule, ℕ, get_set, set-same, there}
+use Rattle.lb_world.proofs.Own.{drew}
+use Rattle.lb_world.proofs.Words.{WorldRule, ℕ, get_set, joined-after, own-step, set-same, there}
 
 -- an event that is no grant leaves the last job
 abbrev no_grant : slots.SlotsEvent → Bool
@@ -130,11 +131,11 @@ module _ {C : Type 0} where
   -- what the group's own tables tell of it
   pub events-here : (h : History C) (st : Step C) (a : Answer) (g : ℕ) → group_at h st ≡ Some g
       → slot_events g ((st, a) ∷ h) ≡ happened h (slot_events g h) st a ++ slot_events g h
-  events-here h st a g at = taken _ (slot_events g h) g (group_at h st) at
+  events-here h st a g at = own-step g h st a ∙ taken _ (slot_events g h) g (group_at h st) at
 
   pub joined-here : (h : History C) (st : Step C) (a : Answer) (g : ℕ) → group_at h st ≡ Some g
       → group_events g ((st, a) ∷ h) ≡ group_after_step h (slot_events g h) (group_events g h) st a
-  joined-here h st a g at = taken _ (group_events g h) g (group_at h st) at
+  joined-here h st a g at = joined-after g h st a ∙ taken _ (group_events g h) g (group_at h st) at
 
 module _ {C : Type 0} {h : History C} {g : ℕ} {e : EntryValue C} (is : EntryIs h g e) where
   -- what is said of an entry's group

@@ -14,8 +14,8 @@ use Rattle.lb_world.specs.Steps as step
 use Rattle.lb_world.specs.declared.answer.Answer.{Answer}
 use Rattle.lb_world.specs.declared.answer.Answer.TheVariants as answer
 use Rattle.lb_world.specs.Meanings.{Meaning}
-use Rattle.lb_world.specs.History.{History, Made, Entered, building, built, is_at, members_in, group_in, slot_in, config_in, config, drew}
-use Rattle.lb_world.specs.History.{made, made_at, gate_of, gate_at, slot_gate, gate_in, group_at, work, ended, happened, slot_events, past}
+use Rattle.lb_world.specs.History.{History, Made, Entered, building, built, is_at, members_in, group_in, slot_in, config_in, config}
+use Rattle.lb_world.specs.History.{made, made_at, gate_of, gate_at, slot_gate, gate_in, group_at, work, ended, slot_events, past}
 use Rattle.lb_world.specs.History.{is_grant, is_failure, is_destruction, count_on, extras, is_free, is_out}
 use Rattle.lb_world.specs.Answers.{IsRun}
 use Rattle.lb_world.proofs.Placing.{everywhere, throughout, nowhere, off-past, on-past, off-both, on-both, same-either}
@@ -23,6 +23,7 @@ use Rattle.lb_world.proofs.Accepted.{granting, failing, ordered-failure, losing,
 use Rattle.lb_world.proofs.Runs.{slots-fit, under_way, Pasts}
 use Rattle.lb_world.proofs.Absent.{found, absent}
 use Rattle.lb_world.proofs.Holders.{HeldBy, still, granted as grants, returned, grown, out-then}
+use Rattle.lb_world.proofs.Own.{drew, happened, own_after, own-step}
 
 -- an extra is there
 pub under_way-extra : (n : ℕ) (e : slots.Extra) → is_under_way n e ≡ true → is_extra e ≡ true
@@ -83,6 +84,14 @@ Tally h a = count_on is_grant a h ≡ count_on is_failure a h + count_on is_dest
 abbrev Sound : {C : Type 0} → History C → ℕ → Type 0
 Sound h a = Held h a × Tally h a
 
+-- the same after a step
+abbrev has_after : {C : Type 0} → History C → Step C → Answer → ℕ → ℕ → Bool
+has_after h st b i r = is_extra (extra (past_of r (own_after i h st b)))
+
+abbrev SoundAfter : {C : Type 0} → History C → Step C → Answer → ℕ → Type 0
+SoundAfter h st b a =
+    HeldBy (λ i r. slot_gate i r ((st, b) ∷ h)) (has_after h st b) a (is_out a ((st, b) ∷ h)) × Tally ((st, b) ∷ h) a
+
 -- one step in the accounts
 tally-grant : (t o : Bool) (J F D : ℕ) → J ≡ F + D + number o → (t ≡ true → o ≡ false)
     → number (true && t) + J ≡ (number (false && t) + F) + (number (false && t) + D) + number (cond t true o)
@@ -133,17 +142,17 @@ module _ {C : Type 0} where
       (count_on is_grant a h) (count_on is_failure a h) (count_on is_destruction a h) grant back before
 
   -- a step that grants nothing and gives nothing back
-  keep : (h : History C) (st : Step C) (b : Answer) (a : ℕ) → Sound h a → ((i r : ℕ) → has ((st, b) ∷ h) i r ≡ has h i r)
-      → is_grant st b ≡ false → (is_failure st b || is_destruction st b) ≡ false → made ((st, b) ∷ h) ≡ made h → Sound ((st, b) ∷ h) a
+  keep : (h : History C) (st : Step C) (b : Answer) (a : ℕ) → Sound h a → ((i r : ℕ) → has_after h st b i r ≡ has h i r)
+      → is_grant st b ≡ false → (is_failure st b || is_destruction st b) ≡ false → made ((st, b) ∷ h) ≡ made h → SoundAfter h st b a
   keep h st b a sound same grant back kept =
       let there : is_out a ((st, b) ∷ h) ≡ is_out a h =
       ap
       (λ (p : Bool × Bool). cond (is_at a (gate_in h (group_at h st))) (cond p.0 true (cond p.1 false (is_out a h))) (is_out a h))
       (λ i. (grant i, back i))
       ∙ same-either (is_at a (gate_in h (group_at h st))) (is_out a h) in (
-        subst (λ (o : Bool). HeldBy (λ i r. slot_gate i r ((st, b) ∷ h)) (has ((st, b) ∷ h)) a o) (sym there)
-            (subst (λ (ms : List (Made C)). HeldBy (λ i r. gate_at r (slice_get ms i)) (has ((st, b) ∷ h)) a (is_out a h)) (sym kept)
-            (still (λ i r. slot_gate i r h) (has h) (has ((st, b) ∷ h)) a (is_out a h) same sound.0)),
+        subst (λ (o : Bool). HeldBy (λ i r. slot_gate i r ((st, b) ∷ h)) (has_after h st b) a o) (sym there)
+            (subst (λ (ms : List (Made C)). HeldBy (λ i r. gate_at r (slice_get ms i)) (has_after h st b) a (is_out a h)) (sym kept)
+            (still (λ i r. slot_gate i r h) (has h) (has_after h st b) a (is_out a h) same sound.0)),
         tallied h st b a sound.1 grant back,
       )
 
@@ -207,10 +216,9 @@ module _ {C : Type 0} (M : Meaning C) where
             before.1 (kept-out h g s a c e has_ before.0),
       )
 
-  sound : (h : History C) → IsRun M h → (a : ℕ) → Sound h a
-  sound [] run a = (λ i r on. refl, refl)
-  sound ((step.group r b cs, answer.Group n) ∷ h) run a =
-      let before = sound h run.0 a in (
+  sound-step : (h : History C) (st : Step C) (b : Answer) → IsRun M ((st, b) ∷ h) → ((a : ℕ) → Sound h a) → (a : ℕ) → SoundAfter h st b a
+  sound-step h (step.group r b cs) (answer.Group n) run all a =
+      let before = all a in (
         grown (λ i q. slot_gate i q h) (λ i q. slot_gate i q ((step.group r b cs, answer.Group n) ∷ h)) (has h) a (is_out a h)
             (λ i q b e. gate-kept q (made h) _ i b e)
             (λ i q.
@@ -221,14 +229,14 @@ module _ {C : Type 0} (M : Meaning C) where
             before.0,
         tallied h (step.group r b cs) (answer.Group n) a before.1 refl refl,
       )
-  sound ((step.ask g s now, answer.Build n) ∷ h) run a =
+  sound-step h (step.ask g s now) (answer.Build n) run all a =
       let m = granting M h g s now n run.1 in
       let at : gate_of g h ≡ Some m.made_by.gate = ap (option_map (λ (x : Made C). x.gate)) m.made_is in
       let on : slot_gate g s h ≡ Some m.made_by.gate = ap (gate_at s) m.made_is ∙ ap (option_map (λ (x : C). m.made_by.gate)) m.config_is in
-      let before = sound h run.0 a in
+      let before = all a in
       let in_ : is_out m.made_by.gate h ≡ false =
       none-out (count_on is_grant m.made_by.gate h) (count_on is_failure m.made_by.gate h) (count_on is_destruction m.made_by.gate h)
-      (is_out m.made_by.gate h) (sound h run.0 m.made_by.gate).1 m.free in (
+      (is_out m.made_by.gate h) (all m.made_by.gate).1 m.free in (
         on-gate h g s a m.made_by.gate _ true at
             (grants (λ i r. slot_gate i r h) (has h) _ g s a m.made_by.gate (is_out a h) on
             (λ e. subst (λ (x : ℕ). is_out x h ≡ false) e in_) before.0
@@ -237,23 +245,23 @@ module _ {C : Type 0} (M : Meaning C) where
         tally-grant (is_at a (gate_of g h)) (is_out a h) (count_on is_grant a h) (count_on is_failure a h) (count_on is_destruction a h)
             before.1 (λ t. subst (λ (x : ℕ). is_out x h ≡ false) (gate-is a m.made_by.gate (gate_of g h) at t) in_),
       )
-  sound ((step.build g s now, answer.BuildFailed n e) ∷ h) run a =
+  sound-step h (step.build g s now) (answer.BuildFailed n e) run all a =
       let c = found {C = C} (step.build g s now) (config g s h) _ (answer.BuildFailed n e) refl run.1 in
       failed h g s now a c.0 c.1
       (under_way-extra (granted (past g s h)) (extra (past g s h))
       (under_way M h g s building (slots-fit M h run.0) (failing M h g s now n e run.1) refl))
-      (sound h run.0 a)
-  sound ((step.failbuild g s now, answer.Failed n) ∷ h) run a =
+      (all a)
+  sound-step h (step.failbuild g s now) (answer.Failed n) run all a =
       let c = found {C = C} (step.failbuild g s now) (config g s h) _ (answer.Failed n) refl run.1 in
       failed h g s now a c.0 c.1
       (under_way-extra (granted (past g s h)) (extra (past g s h))
       (under_way M h g s building (slots-fit M h run.0) (ordered-failure M h g s now n run.1) refl))
-      (sound h run.0 a)
-  sound ((step.destroy g s, answer.Destroyed) ∷ h) run a =
+      (all a)
+  sound-step h (step.destroy g s) answer.Destroyed run all a =
       let c = found {C = C} (step.destroy g s) (config g s h) _ answer.Destroyed refl run.1 in
       let b = gate-found h g s c.0 c.1 in
       let has_ : has h g s ≡ true = retired-extra (generation_of (extra (past g s h))) (extra (past g s h)) (destroying M h g s run.1).0 in
-      let before = sound h run.0 a in (
+      let before = all a in (
         on-gate h g s a b.0 _ false b.1.0
             (returned (λ i r. slot_gate i r h) (has h) _ g s a b.0 (is_out a h) b.1.1 before.0 has_
             (ap (λ (p : slots.History). is_extra (extra p)) (on-both (Pasts h) slots.Destroyed slots.TakenOut g s))
@@ -262,35 +270,35 @@ module _ {C : Type 0} (M : Meaning C) where
             (count_on is_destruction a h)
             before.1 (kept-out h g s a c.0 c.1 has_ before.0),
       )
-  sound ((step.update g now ls, answer.Generation n) ∷ h) run a =
-      keep h (step.update g now ls) (answer.Generation n) a (sound h run.0 a)
+  sound-step h (step.update g now ls) (answer.Generation n) run all a =
+      keep h (step.update g now ls) (answer.Generation n) a (all a)
       (throughout (λ p. is_extra (extra p)) (Pasts h) (slots.Scheduled (members_in ls) now) (λ i. g == i) (λ r k. refl)) refl refl refl
-  sound ((step.lost g s, answer.Lost n) ∷ h) run a =
-      keep h (step.lost g s) (answer.Lost n) a (sound h run.0 a)
+  sound-step h (step.lost g s) (answer.Lost n) run all a =
+      keep h (step.lost g s) (answer.Lost n) a (all a)
       (one h (λ i. slots.WorkerLost) g s (sym (flight-extra (extra (past g s h)) (losing M h g s n run.1)))) refl refl refl
-  sound ((step.publish g s, answer.Published n) ∷ h) run a =
+  sound-step h (step.publish g s) (answer.Published n) run all a =
       let b = publishing M h g s n run.1 in
-      keep h (step.publish g s) (answer.Published n) a (sound h run.0 a)
+      keep h (step.publish g s) (answer.Published n) a (all a)
       (one h (λ i. slots.Published (ended (work g s h)) (slots.granted_members (past i s h))) g s
       (sym (under_way-extra (granted (past g s h)) (extra (past g s h)) (under_way M h g s (built b.0) (slots-fit M h run.0) b.1.0 refl))))
       refl refl refl
-  sound ((step.publish g s, answer.Abandoned n) ∷ h) run a =
+  sound-step h (step.publish g s) (answer.Abandoned n) run all a =
       let b = retiring M h g s n run.1 in
-      keep h (step.publish g s) (answer.Abandoned n) a (sound h run.0 a)
+      keep h (step.publish g s) (answer.Abandoned n) a (all a)
       (one h (λ i. slots.Abandoned (slots.granted_members (past i s h))) g s
       (sym (under_way-extra (granted (past g s h)) (extra (past g s h)) (under_way M h g s (built b.0) (slots-fit M h run.0) b.1 refl))))
       refl refl refl
-  sound ((step.abandon g s, answer.Abandoned n) ∷ h) run a =
+  sound-step h (step.abandon g s) (answer.Abandoned n) run all a =
       let b = abandoning M h g s n run.1 in
-      keep h (step.abandon g s) (answer.Abandoned n) a (sound h run.0 a)
+      keep h (step.abandon g s) (answer.Abandoned n) a (all a)
       (one h (λ i. slots.Abandoned (slots.granted_members (past i s h))) g s
       (sym (under_way-extra (granted (past g s h)) (extra (past g s h)) (under_way M h g s (built b.0) (slots-fit M h run.0) b.1 refl))))
       refl refl refl
-  sound ((step.enter g s, answer.Reader t n) ∷ h) run a =
-      keep h (step.enter g s) (answer.Reader t n) a (sound h run.0 a) (one h (λ i. slots.Entered) g s refl) refl refl refl
-  sound ((step.leave t, answer.Left n) ∷ h) run a =
+  sound-step h (step.enter g s) (answer.Reader t n) run all a =
+      keep h (step.enter g s) (answer.Reader t n) a (all a) (one h (λ i. slots.Entered) g s refl) refl refl refl
+  sound-step h (step.leave t) (answer.Left n) run all a =
       let l = leaving M h t n run.1 in
-      keep h (step.leave t) (answer.Left n) a (sound h run.0 a)
+      keep h (step.leave t) (answer.Left n) a (all a)
       (λ i r.
       subst
       (λ (o : Option (Option Entered)).
@@ -298,20 +306,29 @@ module _ {C : Type 0} (M : Meaning C) where
       i r)
       (sym l.1.0) (one h (λ j. slots.Left n) l.0.group l.0.slot refl i r))
       refl refl refl
-  sound ((step.select g s key limit words, answer.Backend b t) ∷ h) run a =
-      keep h (step.select g s key limit words) (answer.Backend b t) a (sound h run.0 a) (drawing h g s t (config g s h)) refl refl refl
-  sound ((step.select g s key limit words, answer.NoBackend t) ∷ h) run a =
-      keep h (step.select g s key limit words) (answer.NoBackend t) a (sound h run.0 a) (drawing h g s t (config g s h)) refl refl refl
-  sound ((step.select g s key limit words, answer.NotSelected t) ∷ h) run a =
-      keep h (step.select g s key limit words) (answer.NotSelected t) a (sound h run.0 a) (drawing h g s t (config g s h)) refl refl refl
-  sound ((step.cancel g, answer.Cancelled) ∷ h) run a =
-      keep h (step.cancel g) answer.Cancelled a (sound h run.0 a)
+  sound-step h (step.select g s key limit words) (answer.Backend b t) run all a =
+      keep h (step.select g s key limit words) (answer.Backend b t) a (all a) (drawing h g s t (config g s h)) refl refl refl
+  sound-step h (step.select g s key limit words) (answer.NoBackend t) run all a =
+      keep h (step.select g s key limit words) (answer.NoBackend t) a (all a) (drawing h g s t (config g s h)) refl refl refl
+  sound-step h (step.select g s key limit words) (answer.NotSelected t) run all a =
+      keep h (step.select g s key limit words) (answer.NotSelected t) a (all a) (drawing h g s t (config g s h)) refl refl refl
+  sound-step h (step.cancel g) answer.Cancelled run all a =
+      keep h (step.cancel g) answer.Cancelled a (all a)
       (throughout (λ p. is_extra (extra p)) (Pasts h) slots.Cancelled (λ i. g == i) (λ r k. refl)) refl refl refl
-  sound ((st, b) ∷ h) run a =
-      keep h st b a (sound h run.0 a)
+  sound-step h st b run all a =
+      keep h st b a (all a)
       (nowhere (λ p. is_extra (extra p)) (Pasts h) (λ i. happened h (slot_events i h) st b ++ slot_events i h)
       (λ i. is_at i (group_at h st)) (λ i. refl))
       refl refl refl
+
+  sound : (h : History C) → IsRun M h → (a : ℕ) → Sound h a
+  sound [] run a = (λ i r on. refl, refl)
+  sound ((st, b) ∷ h) run a =
+      let now = sound-step h st b run (sound h run.0) a in (
+        still (λ i r. slot_gate i r ((st, b) ∷ h)) (has_after h st b) (has ((st, b) ∷ h)) a (is_out a ((st, b) ∷ h))
+            (λ i r. ap (λ (k : slots.History). is_extra (extra (past_of r k))) (own-step i h st b)) now.0,
+        now.1,
+      )
 
   pub held : (h : History C) → IsRun M h → (a : ℕ) → Held h a
   held h run a = (sound h run a).0

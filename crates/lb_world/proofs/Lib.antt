@@ -1,4 +1,5 @@
 pub mod Placing
+pub mod Own
 pub mod Accepted
 pub mod Readers
 pub mod Runs

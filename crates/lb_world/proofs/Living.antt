@@ -23,7 +23,8 @@ use Rattle.lb_world.specs.Shared.{is_live}
 use Rattle.lb_world.specs.Answers.{IsRun}
 use Rattle.lb_world.specs.GroupEvents.{group_events, view_events}
 use Rattle.lb_world.proofs.Runs.{slots-fit}
-use Rattle.lb_world.proofs.Together.{group-of, views-of}
+use Rattle.lb_world.proofs.Together.{views-of}
+use Rattle.lb_world.proofs.Own.{group-of}
 use Rattle.lb_world.proofs.Viewing.{each-at}
 
 -- settings leave the snapshots

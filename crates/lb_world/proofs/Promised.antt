@@ -18,8 +18,8 @@ use Rattle.lb_world.specs.Steps as step
 use Rattle.lb_world.specs.declared.answer.Answer.{Answer}
 use Rattle.lb_world.specs.declared.answer.Answer.TheVariants as answer
 use Rattle.lb_world.specs.Meanings.{Meaning}
-use Rattle.lb_world.specs.History.{History, Entered, is_at, members_in, group_in, slot_in, config, drew, gate_at, slot_gate, entries}
-use Rattle.lb_world.specs.History.{group_at, work, ended, happened, slot_events, past, extras, is_free, is_out}
+use Rattle.lb_world.specs.History.{History, Entered, is_at, members_in, group_in, slot_in, config, gate_at, slot_gate, entries}
+use Rattle.lb_world.specs.History.{group_at, work, ended, slot_events, past, extras, is_free, is_out}
 use Rattle.lb_world.specs.Answers.{IsRun, without_memory}
 use Rattle.lb_world.specs.Promises.{FreeGatesGrant, NeverFalls, Ledger, NewestServed, MembersKept, Bounded}
 use Rattle.lb_world.proofs.Placing.{off-past, on-past, off-both, on-both, same-either}
@@ -27,6 +27,7 @@ use Rattle.lb_world.proofs.Runs.{slots-fit, Pasts}
 use Rattle.lb_world.proofs.Accepted.{right_answer}
 use Rattle.lb_world.proofs.Counting.{permits-out}
 use Rattle.lb_world.proofs.Extras.{extras-out}
+use Rattle.lb_world.proofs.Own.{drew, happened, own_after, own-step}
 
 none-out : (o : Bool) (x : ℕ) → x ≡ number o → x ≡ 0 → o ≡ false
 none-out true x e z = absurd (omega arith)
@@ -103,45 +104,51 @@ module _ {C : Type 0} where
   leaving-o h n (Some None) all = all
   leaving-o h n (Some (Some e)) all = at-place (Pasts h) (λ i. slots.Left n) e.group e.slot all (all e.group e.slot)
 
-  -- what came back had the members of its job, in every history
-  pub faithful : (h : History C) → (i r : ℕ) → IsFaithful (past i r h)
-  faithful [] i r = tt
-  faithful ((step.update g now ls, answer.Generation n) ∷ h) i r =
-      in-group (Pasts h) (Scheduled (members_in ls) now) (λ j. g == j) (faithful h) (λ q k f. f) i r
-  faithful ((step.ask g s now, answer.Build n) ∷ h) i r = at-place (Pasts h) (λ j. slots.Granted now) g s (faithful h) (faithful h g s) i r
-  faithful ((step.build g s now, answer.BuildFailed n e) ∷ h) i r =
-      at-place (Pasts h) (λ j. slots.Failed now (slots.granted_members (past j s h))) g s (faithful h) (faithful h g s, refl) i r
-  faithful ((step.failbuild g s now, answer.Failed n) ∷ h) i r =
-      at-place (Pasts h) (λ j. slots.Failed now (slots.granted_members (past j s h))) g s (faithful h) (faithful h g s, refl) i r
-  faithful ((step.lost g s, answer.Lost n) ∷ h) i r = at-place (Pasts h) (λ j. slots.WorkerLost) g s (faithful h) (faithful h g s) i r
-  faithful ((step.publish g s, answer.Published n) ∷ h) i r =
-      at-place (Pasts h) (λ j. slots.Published (ended (work g s h)) (slots.granted_members (past j s h))) g s (faithful h) (
-        faithful h g s,
+  -- what came back had the members of its job
+  faithful-step : (h : History C) (st : Step C) (a : Answer) → AllFaithful (Pasts h)
+      → (i r : ℕ) → IsFaithful (past_of r (own_after i h st a))
+  faithful-step h (step.update g now ls) (answer.Generation n) all i r =
+      in-group (Pasts h) (Scheduled (members_in ls) now) (λ j. g == j) all (λ q k f. f) i r
+  faithful-step h (step.ask g s now) (answer.Build n) all i r = at-place (Pasts h) (λ j. slots.Granted now) g s all (all g s) i r
+  faithful-step h (step.build g s now) (answer.BuildFailed n e) all i r =
+      at-place (Pasts h) (λ j. slots.Failed now (slots.granted_members (past j s h))) g s all (all g s, refl) i r
+  faithful-step h (step.failbuild g s now) (answer.Failed n) all i r =
+      at-place (Pasts h) (λ j. slots.Failed now (slots.granted_members (past j s h))) g s all (all g s, refl) i r
+  faithful-step h (step.lost g s) (answer.Lost n) all i r = at-place (Pasts h) (λ j. slots.WorkerLost) g s all (all g s) i r
+  faithful-step h (step.publish g s) (answer.Published n) all i r =
+      at-place (Pasts h) (λ j. slots.Published (ended (work g s h)) (slots.granted_members (past j s h))) g s all (
+        all g s,
         refl,
       ) i r
-  faithful ((step.publish g s, answer.Abandoned n) ∷ h) i r =
-      at-place (Pasts h) (λ j. slots.Abandoned (slots.granted_members (past j s h))) g s (faithful h) (faithful h g s, refl) i r
-  faithful ((step.abandon g s, answer.Abandoned n) ∷ h) i r =
-      at-place (Pasts h) (λ j. slots.Abandoned (slots.granted_members (past j s h))) g s (faithful h) (faithful h g s, refl) i r
-  faithful ((step.enter g s, answer.Reader t n) ∷ h) i r = at-place (Pasts h) (λ j. slots.Entered) g s (faithful h) (faithful h g s) i r
-  faithful ((step.leave t, answer.Left n) ∷ h) i r = leaving-o h n (slice_get (entries h) t) (faithful h) i r
-  faithful ((step.destroy g s, answer.Destroyed) ∷ h) i r =
+  faithful-step h (step.publish g s) (answer.Abandoned n) all i r =
+      at-place (Pasts h) (λ j. slots.Abandoned (slots.granted_members (past j s h))) g s all (all g s, refl) i r
+  faithful-step h (step.abandon g s) (answer.Abandoned n) all i r =
+      at-place (Pasts h) (λ j. slots.Abandoned (slots.granted_members (past j s h))) g s all (all g s, refl) i r
+  faithful-step h (step.enter g s) (answer.Reader t n) all i r = at-place (Pasts h) (λ j. slots.Entered) g s all (all g s) i r
+  faithful-step h (step.leave t) (answer.Left n) all i r = leaving-o h n (slice_get (entries h) t) all i r
+  faithful-step h (step.destroy g s) answer.Destroyed all i r =
       dite (ℕ_discrete i g)
       (λ at.
       dite (ℕ_discrete r s)
       (λ on.
-      subst (λ (j : ℕ). IsFaithful (past j r ((step.destroy g s, answer.Destroyed) ∷ h))) (sym at)
-      (subst (λ (q : ℕ). IsFaithful (past g q ((step.destroy g s, answer.Destroyed) ∷ h))) (sym on)
-      (subst IsFaithful (sym (on-both (Pasts h) slots.Destroyed slots.TakenOut g s)) (faithful h g s))))
-      (λ off. subst IsFaithful (sym (off-both (Pasts h) slots.Destroyed slots.TakenOut g s i r (λ t. off t.1))) (faithful h i r)))
-      (λ off. subst IsFaithful (sym (off-both (Pasts h) slots.Destroyed slots.TakenOut g s i r (λ t. off t.0))) (faithful h i r))
-  faithful ((step.select g s key limit words, answer.Backend b t) ∷ h) i r = drawing h g s t (config g s h) (faithful h) i r
-  faithful ((step.select g s key limit words, answer.NoBackend t) ∷ h) i r = drawing h g s t (config g s h) (faithful h) i r
-  faithful ((step.select g s key limit words, answer.NotSelected t) ∷ h) i r = drawing h g s t (config g s h) (faithful h) i r
-  faithful ((step.cancel g, answer.Cancelled) ∷ h) i r = in-group (Pasts h) Cancelled (λ j. g == j) (faithful h) (λ q k f. f) i r
-  faithful ((st, a) ∷ h) i r =
-      in-none (Pasts h) (λ j. happened h (slot_events j h) st a ++ slot_events j h) (λ j. is_at j (group_at h st)) (faithful h)
+      subst (λ (j : ℕ). IsFaithful (past_of r (own_after j h (step.destroy g s) answer.Destroyed))) (sym at)
+      (subst (λ (q : ℕ). IsFaithful (past_of q (own_after g h (step.destroy g s) answer.Destroyed))) (sym on)
+      (subst IsFaithful (sym (on-both (Pasts h) slots.Destroyed slots.TakenOut g s)) (all g s))))
+      (λ off. subst IsFaithful (sym (off-both (Pasts h) slots.Destroyed slots.TakenOut g s i r (λ t. off t.1))) (all i r)))
+      (λ off. subst IsFaithful (sym (off-both (Pasts h) slots.Destroyed slots.TakenOut g s i r (λ t. off t.0))) (all i r))
+  faithful-step h (step.select g s key limit words) (answer.Backend b t) all i r = drawing h g s t (config g s h) all i r
+  faithful-step h (step.select g s key limit words) (answer.NoBackend t) all i r = drawing h g s t (config g s h) all i r
+  faithful-step h (step.select g s key limit words) (answer.NotSelected t) all i r = drawing h g s t (config g s h) all i r
+  faithful-step h (step.cancel g) answer.Cancelled all i r = in-group (Pasts h) Cancelled (λ j. g == j) all (λ q k f. f) i r
+  faithful-step h st a all i r =
+      in-none (Pasts h) (λ j. happened h (slot_events j h) st a ++ slot_events j h) (λ j. is_at j (group_at h st)) all
       (λ j. refl) i r
+
+  -- in every history
+  pub faithful : (h : History C) → (i r : ℕ) → IsFaithful (past i r h)
+  faithful [] i r = tt
+  faithful ((st, a) ∷ h) i r =
+      subst (λ (k : slots.History). IsFaithful (past_of r k)) (sym (own-step i h st a)) (faithful-step h st a (faithful h) i r)
 
 module _ {C : Type 0} (M : Meaning C) where
   -- the asked slot has no extra, since its gate has none
@@ -166,7 +173,9 @@ module _ {C : Type 0} (M : Meaning C) where
 
   pub never-falls : (h : History C) (st : Step C) (a : Answer) → IsRun M ((st, a) ∷ h) → NeverFalls h st a
   never-falls h st a run g s =
-      no-less-group (is_at g (group_at h st)) s (happened h (slot_events g h) st a) (slot_events g h) (slots-fit M ((st, a) ∷ h) run g s).0
+      subst (λ (k : slots.History). served (past g s h) ≤ served (past_of s k)) (sym (own-step g h st a))
+      (no-less-group (is_at g (group_at h st)) s (happened h (slot_events g h) st a) (slot_events g h)
+      (subst (λ (k : slots.History). slots.IsPast (past_of s k)) (own-step g h st a) (slots-fit M ((st, a) ∷ h) run g s).0))
 
   pub ledger : (h : History C) → IsRun M h → Ledger h
   ledger h run =

@@ -14,11 +14,12 @@ use Rattle.lb_world.specs.Steps as step
 use Rattle.lb_world.specs.declared.answer.Answer.{Answer}
 use Rattle.lb_world.specs.declared.answer.Answer.TheVariants as answer
 use Rattle.lb_world.specs.Meanings.{Meaning}
-use Rattle.lb_world.specs.History.{History, Entered, is_at, reads, group_in, slot_in, config, drew, entries, group_at, happened}
+use Rattle.lb_world.specs.History.{History, Entered, is_at, reads, group_in, slot_in, config, entries, group_at}
 use Rattle.lb_world.specs.History.{slot_events, past}
 use Rattle.lb_world.specs.Answers.{IsRun}
 use Rattle.lb_world.proofs.Placing.{all-unread, kept-group}
 use Rattle.lb_world.proofs.Accepted.{entering, leaving}
+use Rattle.lb_world.proofs.Own.{drew, happened, own_after, own-step}
 
 pub count_pushed : {X : Type 0} (p : X → Bool) (xs : List X) (y : X) → count_by p (xs ++ y ∷ []) ≡ count_by p xs + cond (p y) 1 0
 count_pushed p xs y = sum_by_push (λ x. cond (p x) 1 0) xs y
@@ -91,18 +92,19 @@ drew-unread (Some c) s t = refl
 module _ {C : Type 0} (M : Meaning C) where
   same : (h : History C) (st : Step C) (a : Answer) (i r n : ℕ) → all-unread (happened h (slot_events i h) st a) ≡ true
       → readers n (past i r h) ≡ count_by (reads i r n) (entries h) → entries ((st, a) ∷ h) ≡ entries h
-      → readers n (past i r ((st, a) ∷ h)) ≡ count_by (reads i r n) (entries ((st, a) ∷ h))
+      → readers n (past_of r (own_after i h st a)) ≡ count_by (reads i r n) (entries ((st, a) ∷ h))
   same h st a i r n unread before kept =
       kept-group (is_at i (group_at h st)) n r (happened h (slot_events i h) st a) (slot_events i h) unread
       ∙ before ∙ sym (ap (λ es. count_by (reads i r n) es) kept)
 
-  pub counts : (h : History C) → IsRun M h → (g s n : ℕ) → readers n (past g s h) ≡ count_by (reads g s n) (entries h)
-  counts [] run g s n = refl
-  counts ((step.enter g s, answer.Reader t m) ∷ h) run i r n =
-      entered (λ j. slot_events j h) (λ j q k. count_by (reads j q k) (entries h)) g s m (counts h run.0) (entering M h g s t m run.1).1 i r
+  counts-step : (h : History C) (st : Step C) (a : Answer) → IsRun M ((st, a) ∷ h)
+      → ((i r n : ℕ) → readers n (past i r h) ≡ count_by (reads i r n) (entries h))
+      → (i r n : ℕ) → readers n (past_of r (own_after i h st a)) ≡ count_by (reads i r n) (entries ((st, a) ∷ h))
+  counts-step h (step.enter g s) (answer.Reader t m) run all i r n =
+      entered (λ j. slot_events j h) (λ j q k. count_by (reads j q k) (entries h)) g s m all (entering M h g s t m run.1).1 i r
       n
       ∙ sym (count_pushed (reads i r n) (entries h) (Some (record { group = g; slot = s; generation = m })))
-  counts ((step.leave t, answer.Left m) ∷ h) run i r n =
+  counts-step h (step.leave t) (answer.Left m) run all i r n =
       let l = leaving M h t m run.1 in
       subst
       (λ (o : Option (Option Entered)).
@@ -111,7 +113,7 @@ module _ {C : Type 0} (M : Meaning C) where
       (sym l.1.0)
       (left (λ j. slot_events j h) (λ j q k. count_by (reads j q k) (entries h))
       (λ j q k. count_by (reads j q k) (slice_set (entries h) t None))
-      l.0.group l.0.slot m (counts h run.0)
+      l.0.group l.0.slot m all
       (λ j q k.
       subst
       (λ (x : ℕ).
@@ -119,28 +121,33 @@ module _ {C : Type 0} (M : Meaning C) where
       ≡ count_by (reads j q k) (entries h) + 0)
       l.1.1 (count_set (reads j q k) (entries h) t (Some l.0) None l.1.0))
       i r n)
-  counts ((step.select g s key limit words, answer.Backend b t) ∷ h) run i r n =
-      same h (step.select g s key limit words) (answer.Backend b t) i r n (drew-unread (config g s h) s t) (counts h run.0 i r n) refl
-  counts ((step.select g s key limit words, answer.NoBackend t) ∷ h) run i r n =
-      same h (step.select g s key limit words) (answer.NoBackend t) i r n (drew-unread (config g s h) s t) (counts h run.0 i r n) refl
-  counts ((step.select g s key limit words, answer.NotSelected t) ∷ h) run i r n =
-      same h (step.select g s key limit words) (answer.NotSelected t) i r n (drew-unread (config g s h) s t) (counts h run.0 i r n) refl
-  counts ((step.update g now ls, answer.Generation m) ∷ h) run i r n = same h (step.update g now ls) (answer.Generation m) i r n refl
-      (counts h run.0 i r n) refl
-  counts ((step.ask g s now, answer.Build m) ∷ h) run i r n = same h (step.ask g s now) (answer.Build m) i r n refl
-      (counts h run.0 i r n) refl
-  counts ((step.build g s now, answer.BuildFailed m e) ∷ h) run i r n = same h (step.build g s now) (answer.BuildFailed m e) i r n refl
-      (counts h run.0 i r n) refl
-  counts ((step.failbuild g s now, answer.Failed m) ∷ h) run i r n = same h (step.failbuild g s now) (answer.Failed m) i r n refl
-      (counts h run.0 i r n) refl
-  counts ((step.lost g s, answer.Lost m) ∷ h) run i r n = same h (step.lost g s) (answer.Lost m) i r n refl (counts h run.0 i r n) refl
-  counts ((step.publish g s, answer.Published m) ∷ h) run i r n = same h (step.publish g s) (answer.Published m) i r n refl
-      (counts h run.0 i r n) refl
-  counts ((step.publish g s, answer.Abandoned m) ∷ h) run i r n = same h (step.publish g s) (answer.Abandoned m) i r n refl
-      (counts h run.0 i r n) refl
-  counts ((step.abandon g s, answer.Abandoned m) ∷ h) run i r n = same h (step.abandon g s) (answer.Abandoned m) i r n refl
-      (counts h run.0 i r n) refl
-  counts ((step.destroy g s, answer.Destroyed) ∷ h) run i r n = same h (step.destroy g s) answer.Destroyed i r n refl
-      (counts h run.0 i r n) refl
-  counts ((step.cancel g, answer.Cancelled) ∷ h) run i r n = same h (step.cancel g) answer.Cancelled i r n refl (counts h run.0 i r n) refl
-  counts ((st, a) ∷ h) run i r n = same h st a i r n refl (counts h run.0 i r n) refl
+  counts-step h (step.select g s key limit words) (answer.Backend b t) run all i r n =
+      same h (step.select g s key limit words) (answer.Backend b t) i r n (drew-unread (config g s h) s t) (all i r n) refl
+  counts-step h (step.select g s key limit words) (answer.NoBackend t) run all i r n =
+      same h (step.select g s key limit words) (answer.NoBackend t) i r n (drew-unread (config g s h) s t) (all i r n) refl
+  counts-step h (step.select g s key limit words) (answer.NotSelected t) run all i r n =
+      same h (step.select g s key limit words) (answer.NotSelected t) i r n (drew-unread (config g s h) s t) (all i r n) refl
+  counts-step h (step.update g now ls) (answer.Generation m) run all i r n =
+      same h (step.update g now ls) (answer.Generation m) i r n refl (all i r n) refl
+  counts-step h (step.ask g s now) (answer.Build m) run all i r n =
+      same h (step.ask g s now) (answer.Build m) i r n refl (all i r n) refl
+  counts-step h (step.build g s now) (answer.BuildFailed m e) run all i r n =
+      same h (step.build g s now) (answer.BuildFailed m e) i r n refl (all i r n) refl
+  counts-step h (step.failbuild g s now) (answer.Failed m) run all i r n =
+      same h (step.failbuild g s now) (answer.Failed m) i r n refl (all i r n) refl
+  counts-step h (step.lost g s) (answer.Lost m) run all i r n = same h (step.lost g s) (answer.Lost m) i r n refl (all i r n) refl
+  counts-step h (step.publish g s) (answer.Published m) run all i r n =
+      same h (step.publish g s) (answer.Published m) i r n refl (all i r n) refl
+  counts-step h (step.publish g s) (answer.Abandoned m) run all i r n =
+      same h (step.publish g s) (answer.Abandoned m) i r n refl (all i r n) refl
+  counts-step h (step.abandon g s) (answer.Abandoned m) run all i r n =
+      same h (step.abandon g s) (answer.Abandoned m) i r n refl (all i r n) refl
+  counts-step h (step.destroy g s) answer.Destroyed run all i r n =
+      same h (step.destroy g s) answer.Destroyed i r n refl (all i r n) refl
+  counts-step h (step.cancel g) answer.Cancelled run all i r n = same h (step.cancel g) answer.Cancelled i r n refl (all i r n) refl
+  counts-step h st a run all i r n = same h st a i r n refl (all i r n) refl
+
+  pub counts : (h : History C) → IsRun M h → (g s n : ℕ) → readers n (past g s h) ≡ count_by (reads g s n) (entries h)
+  counts [] run g s n = refl
+  counts ((st, a) ∷ h) run g s n =
+      ap (λ (k : slots.History). readers n (past_of s k)) (own-step g h st a) ∙ counts-step h st a run (counts h run.0) g s n

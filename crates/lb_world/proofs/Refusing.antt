@@ -16,14 +16,14 @@ use Rattle.lb_world.specs.declared.answer.Answer.{Answer}
 use Rattle.lb_world.specs.declared.answer.Answer.TheVariants as answer
 use Rattle.lb_world.specs.History.{History, RegistryMade, Made, Work, is_at, members_in, group_in, slot_in, over, config_in, drew}
 use Rattle.lb_world.specs.History.{registries, gates, made, made_at, config, registry_of, entries, group_at, works_at, worked, work, ended}
-use Rattle.lb_world.specs.History.{happened, slot_events, past, gate_in, is_grant, is_failure, is_destruction, is_out, load_of}
-use Rattle.lb_world.specs.Shared.{settings_in, is_live, configs_in, view_in, key_in, registry_made, registry_in, registry_at, let_go}
-use Rattle.lb_world.specs.Shared.{extra_at, changed, registry_events, events_in, key_of, cells_of}
-use Rattle.lb_world.specs.GroupEvents.{cells_for, group_after_step, group_events, view_events, views_in}
-use Rattle.lb_world.specs.History.{count_on}
+use Rattle.lb_world.specs.History.{slot_events, past, gate_in, is_grant, is_failure, is_destruction, is_out, load_of}
+use Rattle.lb_world.specs.History.{count_on, settings_in, job_members, joined_step}
+use Rattle.lb_world.specs.Shared.{is_live, configs_in, view_in, key_in, registry_made, registry_in, registry_at, let_go}
+use Rattle.lb_world.specs.Shared.{extra_at, changed, registry_events, events_in, key_of}
+use Rattle.lb_world.specs.GroupEvents.{cells_for, group_events, view_events, views_in}
 use Rattle.lb_world.specs.Refused.{TellsAlike}
 use Rattle.lb_world.proofs.Placing.{same-either}
-use Rattle.lb_world.proofs.Together.{group-of}
+use Rattle.lb_world.proofs.Own.{group-of}
 
 pub ap2 {ℓ} : {A B : Type 0} {D : Type ℓ} (f : A → B → D) {a c : A} {b d : B} → a ≡ c → b ≡ d → f a b ≡ f c d
 ap2 f {a = a} {d = d} e u = ap (f a) u ∙ ap (λ x. f x d) e
@@ -63,30 +63,20 @@ module _ {C : Type 0} where
   worked-kept (step.ask g s now) r w = refl
   worked-kept st r w = refl
 
-  happened-kept : (h : History C) (k : slots.History) (st : Step C) (r : Refusal) → happened h k st (answer.Refused r) ≡ []
-  happened-kept h k (step.ask g s now) r = refl
-  happened-kept h k st r = refl
-
-  joined-kept : (h : History C) (k : slots.History) (e : group.History) (st : Step C) (r : Refusal)
-      → group_after_step h k e st (answer.Refused r) ≡ e
-  joined-kept h k e (step.enable g (Some b)) r = refl
-  joined-kept h k e (step.disable g (Some b)) r = refl
-  joined-kept h k e st r = refl
+  joined-kept : (h : History C) (e : group.History) (st : Step C) (r : Refusal) → joined_step cells_for h e st (answer.Refused r) ≡ e
+  joined-kept h e (step.enable g (Some b)) r = refl
+  joined-kept h e (step.disable g (Some b)) r = refl
+  joined-kept h e st r = refl
 
   joins-kept : (h : History C) (st : Step C) (r : Refusal) (g : ℕ) → group_events g ((st, answer.Refused r) ∷ h) ≡ group_events g h
   joins-kept h st r g =
-      ap (λ (es : group.History). cond (is_at g (group_at h st)) es (group_events g h))
-      (joined-kept h (slot_events g h) (group_events g h) st r)
+      ap (λ (es : group.History). cond (is_at g (group_at h st)) es (group_events g h)) (joined-kept h (group_events g h) st r)
       ∙ same-either (is_at g (group_at h st)) (group_events g h)
 
   changed-kept : (h now : History C) (st : Step C) (r : Refusal) (events : List registry.Event)
       → changed h now st (answer.Refused r) events ≡ events
   changed-kept h now (step.update g at ls) r events = refl
   changed-kept h now st r events = refl
-
-  cells-kept : (h : History C) (st : Step C) (r : Refusal) (g n : ℕ) → cells_of g n ((st, answer.Refused r) ∷ h) ≡ cells_of g n h
-  cells-kept h (step.update i at ls) r g n = refl
-  cells-kept h st r g n = refl
 
   loads-kept : (h : History C) (st : Step C) (r : Refusal) (g : ℕ) (b : Member)
       → load_of g b ((st, answer.Refused r) ∷ h) ≡ load_of g b h
@@ -123,13 +113,11 @@ module _ {C : Type 0} where
                   λ g s.
                   ap (λ (w : Work). cond (works_at g s st) w (work g s h)) (worked-kept st r (work g s h))
                   ∙ same-either (works_at g s st) (work g s h);
-              views = λ g. ap2 views_in (ap (λ (ms : List (Made C)). slice_get ms g) (made-kept h st r)) (joins-kept h st r g);
               shared =
                   λ i.
                   ap (λ (es : List registry.Event). cond (is_at i (registry_at h st)) es (registry_events i h))
                   (changed-kept h ((st, answer.Refused r) ∷ h) st r (registry_events i h))
                   ∙ same-either (is_at i (registry_at h st)) (registry_events i h);
-              cells = λ g n. cells-kept h st r g n;
               outs =
                   λ a.
                   out-kept (is_at a (gate_in h (group_at h st))) (is_grant st (answer.Refused r)) (is_failure st (answer.Refused r))
@@ -152,9 +140,7 @@ module _ {C : Type 0} where
               groups_made = sym e.rest.groups_made;
               readers = sym e.rest.readers;
               works = λ g s. sym (e.rest.works g s);
-              views = λ g. sym (e.rest.views g);
               shared = λ r. sym (e.rest.shared r);
-              cells = λ g n. sym (e.rest.cells g n);
               outs = λ a. sym (e.rest.outs a);
               grants = λ a. sym (e.rest.grants a);
               failures = λ a. sym (e.rest.failures a);
@@ -174,9 +160,7 @@ module _ {C : Type 0} where
               groups_made = e.rest.groups_made ∙ u.rest.groups_made;
               readers = e.rest.readers ∙ u.rest.readers;
               works = λ g s. e.rest.works g s ∙ u.rest.works g s;
-              views = λ g. e.rest.views g ∙ u.rest.views g;
               shared = λ r. e.rest.shared r ∙ u.rest.shared r;
-              cells = λ g n. e.rest.cells g n ∙ u.rest.cells g n;
               outs = λ a. e.rest.outs a ∙ u.rest.outs a;
               grants = λ a. e.rest.grants a ∙ u.rest.grants a;
               failures = λ a. e.rest.failures a ∙ u.rest.failures a;
@@ -194,6 +178,10 @@ module _ {C : Type 0} (k h : History C) (e : TellsAlike k h) where
 
   pub at-alike : (g : ℕ) → made_at g k ≡ made_at g h
   at-alike g = ap (λ (ms : List (Made C)). slice_get ms g) e.rest.groups_made
+
+  -- so are those of its view
+  pub views-alike : (g : ℕ) → view_events g k ≡ view_events g h
+  views-alike g = ap2 views_in (at-alike g) (e.joined g)
 
   pub config-alike : (g s : ℕ) → config g s k ≡ config g s h
   config-alike g s = ap (config_in s) (at-alike g)
@@ -244,20 +232,6 @@ module _ {C : Type 0} (k h : History C) (e : TellsAlike k h) where
   gate-alike st = gate-in (group_at k st) ∙ ap (gate_in h) (group-at-alike st)
 
   -- What a step does after both, by its answer.
-  happened-alike : (st : Step C) (a : Answer) (x : slots.History) → happened k x st a ≡ happened h x st a
-  happened-alike (step.publish g s) (answer.Published n) x =
-      ap (λ (w : Work). slots.At s (slots.Published (ended w) (slots.granted_members (slots.past_of s x))) ∷ []) (e.rest.works g s)
-  happened-alike (step.leave t) (answer.Left n) x = ap (λ es. slots.At (slot_in (slice_get es t)) (slots.Left n) ∷ []) e.rest.readers
-  happened-alike (step.select g s key limit words) (answer.Backend b t) x = ap (λ (o : Option C). drew o s t) (config-alike g s)
-  happened-alike (step.select g s key limit words) (answer.NoBackend t) x = ap (λ (o : Option C). drew o s t) (config-alike g s)
-  happened-alike (step.select g s key limit words) (answer.NotSelected t) x = ap (λ (o : Option C). drew o s t) (config-alike g s)
-  happened-alike st a x = refl
-
-  groups-step : (st : Step C) (a : Answer) (g : ℕ) → slot_events g ((st, a) ∷ k) ≡ slot_events g ((st, a) ∷ h)
-  groups-step st a g =
-      ap3 (λ (o : Option ℕ) (es x : slots.History). cond (is_at g o) (es ++ x) x) (group-at-alike st)
-      (happened-alike st a (slot_events g k) ∙ ap (λ (x : slots.History). happened h x st a) (groups-alike g)) (groups-alike g)
-
   made-step : (st : Step C) (a : Answer) → made ((st, a) ∷ k) ≡ made ((st, a) ∷ h)
   made-step (step.group r b configs) (answer.Group n) =
       ap (λ (ms : List (Made C)). ms ++ record { registry = r; gate = b; view = over r ms + 1; configs = configs } ∷ []) e.rest.groups_made
@@ -286,24 +260,27 @@ module _ {C : Type 0} (k h : History C) (e : TellsAlike k h) where
       ap3 (λ (key : Member → Member) (v : ℕ) (es : List registry.Event). registry.shown_cells key v (members_in ls) es)
       (key-alike g) (ap view_in (at-alike g)) (events-alike g)
 
-  joined-alike : (st : Step C) (a : Answer) (x : slots.History) (j : group.History)
-      → group_after_step k x j st a ≡ group_after_step h x j st a
-  joined-alike (step.update g now ls) (answer.Generation n) x j =
+  joined-alike : (st : Step C) (a : Answer) (j : group.History) → joined_step cells_for k j st a ≡ joined_step cells_for h j st a
+  joined-alike (step.update g now ls) (answer.Generation n) j =
       ap (λ cs. group.after_settings (settings_in ls) (group.Shown (members_in ls) cs now ∷ j)) (cells-for-alike g ls)
-  joined-alike (step.update g now ls) (answer.Same n) x j = refl
-  joined-alike (step.enable g (Some b)) answer.Done x j = refl
-  joined-alike (step.disable g (Some b)) answer.Done x j = refl
-  joined-alike st a x j = ap (λ (es : slots.History). group.in_group es ++ j) (happened-alike st a x)
+  joined-alike (step.publish g s) (answer.Published n) j =
+      ap (λ (w : Work). group.At s (slots.Published (ended w) (job_members s j)) ∷ j) (e.rest.works g s)
+  joined-alike (step.leave t) (answer.Left n) j = ap (λ es. group.At (slot_in (slice_get es t)) (slots.Left n) ∷ j) e.rest.readers
+  joined-alike (step.select g s key limit words) (answer.Backend b t) j =
+      ap (λ (o : Option C). drew o s t j) (config-alike g s)
+  joined-alike (step.select g s key limit words) (answer.NoBackend t) j =
+      ap (λ (o : Option C). drew o s t j) (config-alike g s)
+  joined-alike (step.select g s key limit words) (answer.NotSelected t) j =
+      ap (λ (o : Option C). drew o s t j) (config-alike g s)
+  joined-alike st a j = refl
 
-  joined-step : (st : Step C) (a : Answer) (g : ℕ) → group_events g ((st, a) ∷ k) ≡ group_events g ((st, a) ∷ h)
-  joined-step st a g =
+  joined-now : (st : Step C) (a : Answer) (g : ℕ) → group_events g ((st, a) ∷ k) ≡ group_events g ((st, a) ∷ h)
+  joined-now st a g =
       ap3 (λ (o : Option ℕ) (v x : group.History). cond (is_at g o) v x) (group-at-alike st)
-      (joined-alike st a (slot_events g k) (group_events g k)
-      ∙ ap2 (λ (x : slots.History) (j : group.History). group_after_step h x j st a) (groups-alike g) (e.joined g))
-      (e.joined g)
+      (joined-alike st a (group_events g k) ∙ ap (λ (j : group.History). joined_step cells_for h j st a) (e.joined g)) (e.joined g)
 
-  views-step : (st : Step C) (a : Answer) (g : ℕ) → view_events g ((st, a) ∷ k) ≡ view_events g ((st, a) ∷ h)
-  views-step st a g = ap2 views_in (ap (λ (ms : List (Made C)). slice_get ms g) (made-step st a)) (joined-step st a g)
+  groups-step : (st : Step C) (a : Answer) (g : ℕ) → slot_events g ((st, a) ∷ k) ≡ slot_events g ((st, a) ∷ h)
+  groups-step st a g = sym (group-of g ((st, a) ∷ k)) ∙ ap group.slot_events (joined-now st a g) ∙ group-of g ((st, a) ∷ h)
 
   let-go-alike : (st : Step C) (a : Answer) (g n m : ℕ) (x y : List registry.Event) → n ≡ m → x ≡ y
       → let_go g n ((st, a) ∷ k) x ≡ let_go g m ((st, a) ∷ h) y
@@ -332,12 +309,6 @@ module _ {C : Type 0} (k h : History C) (e : TellsAlike k h) where
       ap3 (λ (o : Option ℕ) (v x : List registry.Event). cond (is_at r o) v x) (registry-at-alike st)
       (changed-alike st a (registry_events r k) ∙ ap (changed h ((st, a) ∷ h) st a) (e.rest.shared r)) (e.rest.shared r)
 
-  cells-step : (st : Step C) (a : Answer) (g n : ℕ) → cells_of g n ((st, a) ∷ k) ≡ cells_of g n ((st, a) ∷ h)
-  cells-step (step.update i now ls) (answer.Generation m) g n =
-      ap3 (λ (es : slots.History) (shown cells : List (Member × ℕ)). cond (i == g) (cond (slots.newest es + 1 == n) shown cells) cells)
-      (groups-alike g) (cells-for-alike g ls) (e.rest.cells g n)
-  cells-step st a g n = e.rest.cells g n
-
   outs-step : (st : Step C) (b : Answer) (a : ℕ) → is_out a ((st, b) ∷ k) ≡ is_out a ((st, b) ∷ h)
   outs-step st b a =
       ap2
@@ -364,14 +335,12 @@ module _ {C : Type 0} (k h : History C) (e : TellsAlike k h) where
               groups_made = made-step st a;
               readers = entries-step st a;
               works = works-step st a;
-              views = views-step st a;
               shared = shared-step st a;
-              cells = cells-step st a;
               outs = outs-step st a;
               grants = λ i. count-step is_grant st a i (e.rest.grants i);
               failures = λ i. count-step is_failure st a i (e.rest.failures i);
               destructions = λ i. count-step is_destruction st a i (e.rest.destructions i);
               loads = loads-step st a;
             };
-        joined = joined-step st a;
+        joined = joined-now st a;
       }

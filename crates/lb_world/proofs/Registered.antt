@@ -20,7 +20,7 @@ use Rattle.lb_world.specs.Steps as step
 use Rattle.lb_world.specs.declared.answer.Answer.{Answer}
 use Rattle.lb_world.specs.declared.answer.Answer.TheVariants as answer
 use Rattle.lb_world.specs.Meanings.{Meaning}
-use Rattle.lb_world.specs.History.{History, Made, is_at, members_in, over, registries, made, made_at, registry_of, group_at, happened}
+use Rattle.lb_world.specs.History.{History, Made, is_at, members_in, over, registries, made, made_at, registry_of, group_at}
 use Rattle.lb_world.specs.History.{slot_events}
 use Rattle.lb_world.specs.Shared.{is_live, configs_in, view_in, let_go, extra_at, registry_at, changed, registry_events}
 use Rattle.lb_world.specs.Answers.{IsRun}
@@ -28,6 +28,7 @@ use Rattle.lb_world.specs.Promises.{IsRegistered}
 use Rattle.lb_world.proofs.Absent.{found}
 use Rattle.lb_world.proofs.Together.{get-pushed}
 use Rattle.lb_world.proofs.Numbering.{over-pushed, made-over, registries-there, numbered}
+use Rattle.lb_world.proofs.Own.{happened, own-step}
 
 -- what the calls of a registry leave of a view
 and-false : (b : Bool) → (b && false) ≡ false
@@ -158,14 +159,20 @@ each-get P (y ∷ xs) zero x each e = subst P (same_Some y x e) each.0
 each-get P (y ∷ xs) (suc i) x each e = each-get P xs i x each.1 e
 
 -- what was cancelled before still is
-uncancelled : (b : Bool) (es k : slots.History) → is_cancelled (cond b (es ++ k) k) ≡ false → is_cancelled k ≡ false
-uncancelled true [] k e = e
-uncancelled true (slots.Scheduled ms now ∷ es) k e = uncancelled true es k e
-uncancelled true (slots.Cancelled ∷ es) k e = absurd (cc)
-uncancelled true (slots.At i x ∷ es) k e = uncancelled true es k e
-uncancelled false es k e = e
+uncancelled-by : (b : Bool) (es k : slots.History) → is_cancelled (cond b (es ++ k) k) ≡ false → is_cancelled k ≡ false
+uncancelled-by true [] k e = e
+uncancelled-by true (slots.Scheduled ms now ∷ es) k e = uncancelled-by true es k e
+uncancelled-by true (slots.Cancelled ∷ es) k e = absurd (cc)
+uncancelled-by true (slots.At i x ∷ es) k e = uncancelled-by true es k e
+uncancelled-by false es k e = e
 
 module _ {C : Type 0} where
+  uncancelled : (h : History C) (st : Step C) (a : Answer) (g : ℕ) → is_cancelled (slot_events g ((st, a) ∷ h)) ≡ false
+      → is_cancelled (slot_events g h) ≡ false
+  uncancelled h st a g on =
+      uncancelled-by (is_at g (group_at h st)) (happened h (slot_events g h) st a) (slot_events g h)
+      (sym (ap is_cancelled (own-step g h st a)) ∙ on)
+
   -- a step that leaves the view where it is
   keeps : (h : History C) (st : Step C) (a : Answer) (r id : ℕ) → (has_view id (views_after (registry_events r h)) ≡ true
       → has_view id (views_after (changed h ((st, a) ∷ h) st a (registry_events r h))) ≡ true)
@@ -213,28 +220,26 @@ module _ {C : Type 0} (M : Meaning C) where
       lets-go at (newest (slot_events at h)) m.view ((step.update at now ls, answer.Generation n) ∷ h) _
       (updated-has m.view (view_in (made_at at h)) (members_in ls) (live (views_after (registry_events m.registry h)))
       (live-has m.view (views_after (registry_events m.registry h)) has)))
-      (is-registered h run.0 g m there (uncancelled (at == g) (slots.Scheduled (members_in ls) now ∷ []) (slot_events g h) on))
+      (is-registered h run.0 g m there (uncancelled h (step.update at now ls) (answer.Generation n) g on))
   is-registered ((step.build at s now, answer.BuildFailed n e) ∷ h) run g m there on =
       keeps h (step.build at s now) (answer.BuildFailed n e) m.registry m.view
       (lets-go at (extra_at at s h) m.view ((step.build at s now, answer.BuildFailed n e) ∷ h) (registry_events m.registry h))
       (is-registered h run.0 g m there
-      (uncancelled (at == g) (slots.At s (slots.Failed now (slots.granted_members (slots.past_of s (slot_events g h)))) ∷ [])
-      (slot_events g h) on))
+      (uncancelled h (step.build at s now) (answer.BuildFailed n e) g on))
   is-registered ((step.failbuild at s now, answer.Failed n) ∷ h) run g m there on =
       keeps h (step.failbuild at s now) (answer.Failed n) m.registry m.view
       (lets-go at (extra_at at s h) m.view ((step.failbuild at s now, answer.Failed n) ∷ h) (registry_events m.registry h))
       (is-registered h run.0 g m there
-      (uncancelled (at == g) (slots.At s (slots.Failed now (slots.granted_members (slots.past_of s (slot_events g h)))) ∷ [])
-      (slot_events g h) on))
+      (uncancelled h (step.failbuild at s now) (answer.Failed n) g on))
   is-registered ((step.destroy at s, answer.Destroyed) ∷ h) run g m there on =
       keeps h (step.destroy at s) answer.Destroyed m.registry m.view
       (lets-go at (extra_at at s h) m.view ((step.destroy at s, answer.Destroyed) ∷ h) (registry_events m.registry h))
-      (is-registered h run.0 g m there (uncancelled (at == g) (slots.At s slots.Destroyed ∷ slots.At s slots.TakenOut ∷ [])
-      (slot_events g h) on))
+      (is-registered h run.0 g m there (uncancelled h (step.destroy at s) answer.Destroyed g on))
   is-registered ((step.cancel at, answer.Cancelled) ∷ h) run g m there on =
-      let before = is-registered h run.0 g m there (uncancelled (at == g) (slots.Cancelled ∷ []) (slot_events g h) on) in
+      let before = is-registered h run.0 g m there (uncancelled h (step.cancel at) answer.Cancelled g on) in
       let x = found {C = C} (step.cancel at) (made_at at h) _ answer.Cancelled refl run.1 in
-      let off : ¬ (at ≡ g) = λ e. still-on (at == g) (slot_events g h) (eq-eqb at g e) on in
+      let off : ¬ (at ≡ g) = λ e. still-on (at == g) (slot_events g h) (eq-eqb at g e)
+      (sym (ap is_cancelled (own-step g h (step.cancel at) answer.Cancelled)) ∙ on) in
       dite (ℕ_discrete x.0.registry m.registry)
       (λ same.
       keeps h (step.cancel at) answer.Cancelled m.registry m.view
@@ -259,4 +264,4 @@ module _ {C : Type 0} (M : Meaning C) where
       keeps h (step.verdict q c ok threshold) (answer.Flipped b) m.registry m.view (λ has. has) (is-registered h run.0 g m there on)
   is-registered ((st, a) ∷ h) run g m there on =
       keeps h st a m.registry m.view (λ has. has)
-      (is-registered h run.0 g m there (uncancelled (is_at g (group_at h st)) (happened h (slot_events g h) st a) (slot_events g h) on))
+      (is-registered h run.0 g m there (uncancelled h st a g on))

@@ -12,12 +12,13 @@ use Rattle.lb_world.specs.declared.answer.Answer.{Answer}
 use Rattle.lb_world.specs.declared.answer.Answer.TheVariants as answer
 use Rattle.lb_world.specs.Meanings.{Meaning}
 use Rattle.lb_world.specs.History.{History, Entered, Work, idle, building, built, is_held, ended, is_at, reads, members_in, group_in}
-use Rattle.lb_world.specs.History.{slot_in, config, drew, entries, group_at, works_at, worked, work, happened, slot_events, past}
+use Rattle.lb_world.specs.History.{slot_in, config, entries, group_at, works_at, worked, work, slot_events, past}
 use Rattle.lb_world.specs.Answers.{IsRun}
 use Rattle.lb_world.proofs.Placing.{Fits, AllFit, spread, placed, happens, idles, beside, here}
 use Rattle.lb_world.proofs.Accepted.{granting, failing, building-done, ordered-failure, losing, publishing, retiring, abandoning, leaving}
 use Rattle.lb_world.proofs.Accepted.{destroying, updating}
 use Rattle.lb_world.proofs.Readers.{counts, count_set}
+use Rattle.lb_world.proofs.Own.{drew, happened, own_after, own-step}
 
 -- what flies is of the last job
 flies : (s g : ℕ) (e : slots.Extra) → is_flight e ≡ true → UnderWayFits s g e → is_under_way g e ≡ true
@@ -58,7 +59,7 @@ module _ {C : Type 0} where
 
   quiet : (h : History C) (st : Step C) (a : Answer) → AllFit (Pasts h) (Works h)
       → ((i : ℕ) → happened h (slot_events i h) st a ≡ []) → ((w : Work) → worked st a w ≡ w)
-      → (i r : ℕ) → Fits (past i r ((st, a) ∷ h)) (work i r ((st, a) ∷ h))
+      → (i r : ℕ) → Fits (past_of r (own_after i h st a)) (work i r ((st, a) ∷ h))
   quiet h st a all none kept =
       idles (Pasts h) (Works h) (λ i r. work i r ((st, a) ∷ h)) (λ i. is_at i (group_at h st))
       (λ i. happened h (slot_events i h) st a ++ slot_events i h) all
@@ -114,22 +115,19 @@ module _ {C : Type 0} (M : Meaning C) where
       Fits (past_of r (cond (is_at i (group_in o)) (At (slot_in o) (slots.Left m) ∷ slot_events i h) (slot_events i h))) (work i r h))
       (sym there) (stays h (slots.Left m) e.group e.slot all (reading h run t m e there of) refl i r)
 
-  pub slots-fit : (h : History C) → IsRun M h → (i r : ℕ) → Fits (past i r h) (work i r h)
-  slots-fit [] run i r = (tt, refl)
-  slots-fit ((step.update g now ls, answer.Generation n) ∷ h) run i r =
-      let all = slots-fit h run.0 in
+  fit-step : (h : History C) (st : Step C) (a : Answer) → IsRun M ((st, a) ∷ h) → AllFit (Pasts h) (Works h)
+      → (i r : ℕ) → Fits (past_of r (own_after i h st a)) (work i r ((st, a) ∷ h))
+  fit-step h (step.update g now ls) (answer.Generation n) run all i r =
       let goes = (updating M h g now ls n run.1).1 in
       spread (Pasts h) (λ i. slots.Scheduled (members_in ls) now ∷ slot_events i h) (Works h) (Works h) g all
       (λ r. (((all g r).0, cancelled-past r (slot_events g h) ∙ goes), (all g r).1)) (λ i r off. refl) i r
-  slots-fit ((step.ask g s now, answer.Build n) ∷ h) run i r =
-      moves h (λ i. slots.Granted now) g s building (slots-fit h run.0) (granting M h g s now n run.1).may
+  fit-step h (step.ask g s now) (answer.Build n) run all i r =
+      moves h (λ i. slots.Granted now) g s building all (granting M h g s now n run.1).may
       (eq-eqb (slots.newest (past g s h)) (slots.newest (past g s h)) refl) i r
-  slots-fit ((step.build g s now, answer.BuildFailed n e) ∷ h) run i r =
-      let all = slots-fit h run.0 in
+  fit-step h (step.build g s now) (answer.BuildFailed n e) run all i r =
       moves h (λ i. slots.Failed now (slots.granted_members (past i s h))) g s idle all
       (under_way h g s building all (failing M h g s now n e run.1) refl) refl i r
-  slots-fit ((step.build g s now, answer.Built n) ∷ h) run i r =
-      let all = slots-fit h run.0 in
+  fit-step h (step.build g s now) (answer.Built n) run all i r =
       let was = building-done M h g s now n run.1 in
       let before = idles (Pasts h) (Works h) (Works h) (λ j. g == j) (Pasts h) all (λ j. refl) (λ j q. refl) i r in
       rebuilt (g == i && s == r) (past_of r (cond (g == i) (slot_events i h) (slot_events i h))) (work i r h) (built now) before
@@ -137,35 +135,29 @@ module _ {C : Type 0} (M : Meaning C) where
       let parts = and_parts (g == i) (s == r) at in
       subst (λ (j : ℕ). is_held (work j r h) ≡ true) (eqb-true g i parts.0)
       (subst (λ (q : ℕ). is_held (work g q h) ≡ true) (eqb-true s r parts.1) (ap is_held was)))
-  slots-fit ((step.failbuild g s now, answer.Failed n) ∷ h) run i r =
-      let all = slots-fit h run.0 in
+  fit-step h (step.failbuild g s now) (answer.Failed n) run all i r =
       moves h (λ i. slots.Failed now (slots.granted_members (past i s h))) g s idle all
       (under_way h g s building all (ordered-failure M h g s now n run.1) refl) refl i r
-  slots-fit ((step.lost g s, answer.Lost n) ∷ h) run i r =
-      let all = slots-fit h run.0 in
+  fit-step h (step.lost g s) (answer.Lost n) run all i r =
       let up = losing M h g s n run.1 in
       stays h slots.WorkerLost g s all up
       (eq-eqb (granted (past g s h)) (granted (past g s h)) refl ∙ sym (flight-under_way (past g s h) (all g s).0 up)) i r
-  slots-fit ((step.publish g s, answer.Published n) ∷ h) run i r =
-      let all = slots-fit h run.0 in
+  fit-step h (step.publish g s) (answer.Published n) run all i r =
       let parts = and_parts (is_flight (extra (past g s h))) (not (slots.is_cancelled (slot_events g h)))
       (publishing M h g s n run.1).1.1 in
       moves h (λ i. slots.Published (ended (work g s h)) (slots.granted_members (past i s h))) g s idle all
       (parts.0, cancelled-past s (slot_events g h) ∙ not-true (slots.is_cancelled (slot_events g h)) parts.1) refl i r
-  slots-fit ((step.publish g s, answer.Abandoned n) ∷ h) run i r =
-      let all = slots-fit h run.0 in
+  fit-step h (step.publish g s) (answer.Abandoned n) run all i r =
       let b = retiring M h g s n run.1 in
       moves h (λ i. slots.Abandoned (slots.granted_members (past i s h))) g s idle all (under_way h g s (built b.0) all b.1 refl) refl i r
-  slots-fit ((step.abandon g s, answer.Abandoned n) ∷ h) run i r =
-      let all = slots-fit h run.0 in
+  fit-step h (step.abandon g s) (answer.Abandoned n) run all i r =
       let b = abandoning M h g s n run.1 in
       moves h (λ i. slots.Abandoned (slots.granted_members (past i s h))) g s idle all (under_way h g s (built b.0) all b.1 refl) refl i r
-  slots-fit ((step.enter g s, answer.Reader t n) ∷ h) run i r = stays h slots.Entered g s (slots-fit h run.0) tt refl i r
-  slots-fit ((step.leave t, answer.Left n) ∷ h) run i r =
+  fit-step h (step.enter g s) (answer.Reader t n) run all i r = stays h slots.Entered g s all tt refl i r
+  fit-step h (step.leave t) (answer.Left n) run all i r =
       let l = leaving M h t n run.1 in
-      leaves h run.0 t n l.0 l.1.0 l.1.1 (slots-fit h run.0) i r
-  slots-fit ((step.destroy g s, answer.Destroyed) ∷ h) run i r =
-      let all = slots-fit h run.0 in
+      leaves h run.0 t n l.0 l.1.0 l.1.1 all i r
+  fit-step h (step.destroy g s) answer.Destroyed run all i r =
       let d = destroying M h g s run.1 in
       let p : slots.History = past g s h in
       placed (Pasts h) (λ i. At s slots.Destroyed ∷ At s slots.TakenOut ∷ slot_events i h) (Works h) (Works h) g s all
@@ -177,10 +169,15 @@ module _ {C : Type 0} (M : Meaning C) where
       past-other r s slots.Destroyed (At s slots.TakenOut ∷ slot_events g h) (λ e. off (sym e))
       ∙ past-other r s slots.TakenOut (slot_events g h) (λ e. off (sym e)))
       (λ i r off. refl) i r
-  slots-fit ((step.select g s key limit words, answer.Backend b t) ∷ h) run i r = drawing h g s t (config g s h) (slots-fit h run.0) i r
-  slots-fit ((step.select g s key limit words, answer.NoBackend t) ∷ h) run i r = drawing h g s t (config g s h) (slots-fit h run.0) i r
-  slots-fit ((step.select g s key limit words, answer.NotSelected t) ∷ h) run i r = drawing h g s t (config g s h) (slots-fit h run.0) i r
-  slots-fit ((step.cancel g, answer.Cancelled) ∷ h) run i r =
-      let all = slots-fit h run.0 in
+  fit-step h (step.select g s key limit words) (answer.Backend b t) run all i r = drawing h g s t (config g s h) all i r
+  fit-step h (step.select g s key limit words) (answer.NoBackend t) run all i r = drawing h g s t (config g s h) all i r
+  fit-step h (step.select g s key limit words) (answer.NotSelected t) run all i r = drawing h g s t (config g s h) all i r
+  fit-step h (step.cancel g) answer.Cancelled run all i r =
       spread (Pasts h) (λ i. slots.Cancelled ∷ slot_events i h) (Works h) (Works h) g all (λ r. all g r) (λ i r off. refl) i r
-  slots-fit ((st, a) ∷ h) run i r = quiet h st a (slots-fit h run.0) (λ i. refl) (λ w. refl) i r
+  fit-step h st a run all i r = quiet h st a all (λ i. refl) (λ w. refl) i r
+
+  pub slots-fit : (h : History C) → IsRun M h → (i r : ℕ) → Fits (past i r h) (work i r h)
+  slots-fit [] run i r = (tt, refl)
+  slots-fit ((st, a) ∷ h) run i r =
+      subst (λ (k : slots.History). Fits (past_of r k) (work i r ((st, a) ∷ h))) (sym (own-step i h st a))
+      (fit-step h st a run (slots-fit h run.0) i r)

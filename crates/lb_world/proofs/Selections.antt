@@ -29,12 +29,13 @@ use Rattle.lb_world.specs.Steps as step
 use Rattle.lb_world.specs.declared.answer.Answer.{Answer}
 use Rattle.lb_world.specs.declared.answer.Answer.TheVariants as answer
 use Rattle.lb_world.specs.Meanings.{Meaning}
-use Rattle.lb_world.specs.History.{History, Made, config, config_in, drew, slot_events, load_of, made_at, past, registry_of}
+use Rattle.lb_world.specs.History.{History, Made, config, config_in, slot_events, load_of, made_at, past, registry_of}
 use Rattle.lb_world.specs.Shared.{key_of, registry_events}
 use Rattle.lb_world.specs.Answers.{IsRun, Judges, SelectAnswers, SelectsIn, refuse, selected}
-use Rattle.lb_world.specs.GroupEvents.{group_after_step, group_events}
+use Rattle.lb_world.specs.GroupEvents.{group_events}
 use Rattle.lb_world.proofs.Promised.{members-kept}
-use Rattle.lb_world.proofs.Together.{group-of, views-of}
+use Rattle.lb_world.proofs.Together.{views-of}
+use Rattle.lb_world.proofs.Own.{drew, group-of, group_after_step}
 
 -- a selection is refused for memory alone
 for-memory : {S : Type 0} (accepts : Member → Bool → Type 0) (limit : ℕ) (gives : S → Draw → S → Type 0)

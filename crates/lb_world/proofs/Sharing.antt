@@ -23,7 +23,8 @@ use Rattle.lb_world.specs.declared.answer.Answer.{Answer}
 use Rattle.lb_world.specs.declared.answer.Answer.TheVariants as answer
 use Rattle.lb_world.specs.Meanings.{Meaning}
 use Rattle.lb_world.specs.History.{History, Made, building, config, config_in, is_at, members_in, made_at, past, registry_of, slot_events}
-use Rattle.lb_world.specs.Shared.{settings_in, is_live, configs_in, view_in, key_of, events_in, extra_at, registry_events}
+use Rattle.lb_world.specs.History.{settings_in, job_members}
+use Rattle.lb_world.specs.Shared.{is_live, configs_in, view_in, key_of, events_in, extra_at, registry_events}
 use Rattle.lb_world.specs.GroupEvents.{cells_for, group_events, view_events, views_in}
 use Rattle.lb_world.specs.Answers.{IsRun}
 use Rattle.lb_world.specs.Promises.{SharesAlike}
@@ -32,7 +33,7 @@ use Rattle.lb_world.proofs.Accepted.{failing, ordered-failure, updating}
 use Rattle.lb_world.proofs.Joining.{follows}
 use Rattle.lb_world.proofs.Living.{settings-leave, lives-exactly}
 use Rattle.lb_world.proofs.Runs.{slots-fit, under_way}
-use Rattle.lb_world.proofs.Together.{group-of}
+use Rattle.lb_world.proofs.Own.{group-of}
 
 module _ {C : Type 0} where
   -- a registry lets go where the view's snapshot is gone
@@ -83,12 +84,12 @@ module _ {C : Type 0} (M : Meaning C) where
   failed-after : (h : History C) → IsRun M h → (g s now : ℕ) (m : Made C) (c : C) → made_at g h ≡ Some m → config g s h ≡ Some c
       → is_under_way (granted (past g s h)) (extra (past g s h)) ≡ true
       → views_in (made_at g h)
-      (cond (g == g) (group.At s (slots.Failed now (slots.granted_members (past g s h))) ∷ group_events g h) (group_events g h))
+      (cond (g == g) (group.At s (slots.Failed now (job_members s (group_events g h))) ∷ group_events g h) (group_events g h))
       ≡ Released (extra_at g s h) ∷ view_events g h
   failed-after h run g s now m c there is up =
-      there-after h g m (group.At s (slots.Failed now (slots.granted_members (past g s h))) ∷ group_events g h)
+      there-after h g m (group.At s (slots.Failed now (job_members s (group_events g h))) ∷ group_events g h)
       (λ v. Released (extra_at g s h) ∷ v) there
-      (failed-view (length m.configs) s now (extra_at g s h) (slots.granted_members (past g s h)) (group_events g h)
+      (failed-view (length m.configs) s now (extra_at g s h) (job_members s (group_events g h)) (group_events g h)
       (config-within s (made_at g h) m c there is)
       (ap (λ (k : slots.History). granted (past_of s k)) (group-of g h) ∙ under_way-number (granted (past g s h)) (extra (past g s h)) up))
 

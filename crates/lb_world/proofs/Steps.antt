@@ -1,5 +1,5 @@
 -- What single steps do: publications, destructions, and that others stay.
-use Rattle.std.proofs.Common.{◌≡◌, ◌⊎◌, inl, inr, ◌<◌, ◌==◌, ◌∙◌, ℕ, Bool, true, false, cond, ◌∷◌, ◌++◌, refl, sym, ap, subst}
+use Rattle.std.proofs.Common.{◌≡◌, ◌⊎◌, inl, inr, ◌<◌, ◌==◌, ◌∙◌, ℕ, Bool, true, false, cond, ◌∷◌, refl, sym, ap, subst}
 use Rattle.std.proofs.Common.{arith}
 use Rattle.std.specs.Prelude.{Option, Some, None}
 use Rattle.std.proofs.lemmas.Bool.{eqb-false}
@@ -15,16 +15,16 @@ use Rattle.lb_world.specs.Steps as step
 use Rattle.lb_world.specs.declared.answer.Answer.{Answer}
 use Rattle.lb_world.specs.declared.answer.Answer.TheVariants as answer
 use Rattle.lb_world.specs.Meanings.{Meaning}
-use Rattle.lb_world.specs.History.{History, Made, is_at, config, made, made_at, group_at, work, ended, happened, slot_events, past}
+use Rattle.lb_world.specs.History.{History, config, joined_step, work, ended, past}
 use Rattle.lb_world.specs.Shared.{changed, registry_events}
 use Rattle.lb_world.specs.Answers.{Answers, IsRun, without_memory, at_one, unless_refused, destroy_refusal}
-use Rattle.lb_world.specs.GroupEvents.{group_after_step, group_events, view_events, views_in}
+use Rattle.lb_world.specs.GroupEvents.{cells_for, group_events}
 use Rattle.lb_world.specs.Promises.{Raises, DestroysExactly, OthersStay}
 use Rattle.lb_world.proofs.Placing.{on-past}
-use Rattle.lb_world.proofs.Extras.{get-kept}
 use Rattle.lb_world.proofs.Accepted.{right-is, there, built-there, destroying}
 use Rattle.lb_world.proofs.Readers.{counts}
 use Rattle.lb_world.proofs.Runs.{slots-fit, Pasts}
+use Rattle.lb_world.proofs.Own.{own-step}
 
 told-published : (b : Bool) (x n : ℕ) → cond b (answer.Published x) (answer.Abandoned x) ≡ answer.Published n → x ≡ n
 told-published true x n e = cc
@@ -41,7 +41,8 @@ module _ {C : Type 0} (M : Meaning C) where
   raises h (step.publish g s) (answer.Published n) run =
       let e : ℕ → slots.SlotEvent = λ i. slots.Published (ended (work g s h)) (slots.granted_members (past i s h)) in
       let is : granted (past g s h) ≡ n = published h g s n run.1 in
-      let now : past g s ((step.publish g s, answer.Published n) ∷ h) ≡ At s (e g) ∷ past g s h = on-past (Pasts h) e g s in
+      let now : past g s ((step.publish g s, answer.Published n) ∷ h) ≡ At s (e g) ∷ past g s h =
+      ap (past_of s) (own-step g h (step.publish g s) (answer.Published n)) ∙ on-past (Pasts h) e g s in
       let can : slots.IsPast (At s (e g) ∷ past g s h) =
       subst slots.IsPast now (slots-fit M ((step.publish g s, answer.Published n) ∷ h) run g s).0 in
       let up : served (past g s h) < granted (past g s h) = rises (At s (e g)) (past g s h) can in
@@ -98,6 +99,6 @@ module _ {C : Type 0} where
   pub others-stay : (h : History C) (st : Step C) (a : Answer) → OthersStay h st a
   others-stay h st a =
       record {
-        joined = λ g off. ap (λ (t : Bool). cond t (group_after_step h (slot_events g h) (group_events g h) st a) (group_events g h)) off;
+        joined = λ g off. ap (λ (t : Bool). cond t (joined_step cells_for h (group_events g h) st a) (group_events g h)) off;
         registries = λ r off. ap (λ (t : Bool). cond t (changed h ((st, a) ∷ h) st a (registry_events r h)) (registry_events r h)) off;
       }

@@ -1,36 +1,30 @@
 -- The events of a group are those of a group that is joined with its view, and to one that isn't made nothing has happened.
 use Rattle.std.proofs.Common.{◌≡◌, ◌⊎◌, inl, inr, ◌<◌, ◌==◌, ◌∙◌, ℕ, zero, suc, Bool, true, false, cond, List, [], ◌∷◌, ◌++◌, length}
 use Rattle.std.proofs.Common.{refl, sym, ap, arith}
-use Rattle.std.specs.Prelude.{Option, Some, None, slice_get}
+use Rattle.std.specs.Prelude.{Some, None, slice_get}
 use Rattle.std.proofs.lemmas.Bool.{eq-eqb, ne_eqb}
 use Rattle.std.proofs.lemmas.Option.{none-some, same_Some}
 use Rattle.lb_rebuild_core.specs.SlotsHistory as slots
 use Rattle.lb_rebuild_core.specs.SlotsCalls.{is_change}
 use Rattle.lb_rebuild_core.specs.GroupHistory as group
 use Rattle.lb_rebuild_core.specs.GroupHistory.{Shown, in_group, after_settings}
-use Rattle.lb_rebuild_core.proofs.Histories.{group-joined, settings-group}
 use Rattle.lb_world.specs.Steps.{Step}
 use Rattle.lb_world.specs.Steps as step
 use Rattle.lb_world.specs.declared.answer.Answer.{Answer}
 use Rattle.lb_world.specs.declared.answer.Answer.TheVariants as answer
 use Rattle.lb_world.specs.declared.step.Listing.{Listing}
 use Rattle.lb_world.specs.Meanings.{Meaning}
-use Rattle.lb_world.specs.History.{History, Made, is_at, members_in, drew, made, made_at, group_at, happened}
-use Rattle.lb_world.specs.History.{slot_events}
-use Rattle.lb_world.specs.Shared.{settings_in}
+use Rattle.lb_world.specs.History.{History, Made, is_at, members_in, made, made_at, group_at}
+use Rattle.lb_world.specs.History.{settings_in, slot_events}
 use Rattle.lb_world.specs.Answers.{IsRun, Answers, has_refused, refuse}
 use Rattle.lb_select_base.specs.declared.refusal.Refusal.TheVariants as refusal
-use Rattle.lb_world.specs.GroupEvents.{cells_for, group_after_step, group_events, view_events, views_in, JoinsAlike, SchedulesAlike}
+use Rattle.lb_world.specs.GroupEvents.{cells_for, group_events, view_events, views_in, JoinsAlike, SchedulesAlike}
 use Rattle.lb_world.proofs.Accepted.{is_lasting, right-is, there, updating, unchanging, right_answer}
 use Rattle.lb_world.proofs.Absent.{found, get-front, absent}
+use Rattle.lb_world.proofs.Own.{happened, own-step, group-of, joined-after}
 
 true-false : true ≡ false → ⊥
 true-false e = absurd (cc)
-
-either-way : {A B : Type 0} (f : A → B) (b : Bool) (new old : A) (v w : B) → (b ≡ true → f new ≡ v) → f old ≡ w
-    → f (cond b new old) ≡ cond b v w
-either-way f true new old v w here else_ = here refl
-either-way f false new old v w here else_ = else_
 
 -- at a group that isn't there
 none-joined : (es k : slots.History) → es ++ k ≡ [] → in_group es ≡ []
@@ -42,24 +36,6 @@ quiet true es k e none was = rw (none-joined es k none) was
 quiet false es k e none was = was
 
 module _ {C : Type 0} where
-  told : (h : History C) (k : slots.History) (e : group.History) (st : Step C) (a : Answer) → group.slot_events e ≡ k
-      → group.slot_events (group_after_step h k e st a) ≡ happened h k st a ++ k
-  told h k e (step.update g now ls) (answer.Generation n) is =
-      settings-group (settings_in ls) (Shown (members_in ls) (cells_for g ls h) now ∷ e)
-      ∙ ap (λ (l : slots.History). slots.Scheduled (members_in ls) now ∷ l) is
-  told h k e (step.update g now ls) (answer.Same n) is = settings-group (settings_in ls) e ∙ is
-  told h k e (step.enable g (Some b)) answer.Done is = is
-  told h k e (step.disable g (Some b)) answer.Done is = is
-  told h k e st a is = group-joined (happened h k st a) e ∙ ap (λ (l : slots.History). happened h k st a ++ l) is
-
-  pub group-of : (g : ℕ) (h : History C) → group.slot_events (group_events g h) ≡ slot_events g h
-  group-of g [] = refl
-  group-of g ((st, a) ∷ h) =
-      either-way group.slot_events (is_at g (group_at h st)) (group_after_step h (slot_events g h) (group_events g h) st a)
-      (group_events g h)
-      (happened h (slot_events g h) st a ++ slot_events g h) (slot_events g h)
-      (λ t. told h (slot_events g h) (group_events g h) st a (group-of g h)) (group-of g h)
-
   apart : (g i : ℕ) (h : History C) (m : Made C) (new : group.History) → made_at g h ≡ Some m → made_at i h ≡ None → group_events i h ≡ []
       → cond (g == i) new (group_events i h) ≡ []
   apart g i h m new there none was =
@@ -91,8 +67,9 @@ module _ {C : Type 0} (M : Meaning C) where
       let m = found {C = C} (step.disable g (Some b)) (made_at g h) _ answer.Done refl run.1 in
       apart g i h m.0 _ m.1 none (nothing-joined h run.0 i none)
   nothing-joined ((st, a) ∷ h) run i none =
-      quiet (is_at i (group_at h st)) (happened h (slot_events i h) st a) (slot_events i h) (group_events i h)
-      (absent M ((st, a) ∷ h) run i none).events (nothing-joined h run.0 i none)
+      joined-after i h st a
+      ∙ quiet (is_at i (group_at h st)) (happened h (slot_events i h) st a) (slot_events i h) (group_events i h)
+      (sym (own-step i h st a) ∙ (absent M ((st, a) ∷ h) run i none).events) (nothing-joined h run.0 i none)
 
 pub get-pushed : {X : Type 0} (xs : List X) (y z : X) (i : ℕ) → slice_get (xs ++ y ∷ []) i ≡ Some z
     → ((i ≡ length xs) × (z ≡ y)) ⊎ ((i < length xs) × (slice_get xs i ≡ Some z))
@@ -104,11 +81,6 @@ get-pushed (x ∷ xs) y z (suc i) e =
       | inl at ↦ inl ((let same : i ≡ length xs = at.0 in omega arith), at.1)
       | inr before ↦ inr ((let low : i < length xs = before.0 in omega arith), before.1)
     ]
-
-pub drawn-view : {C : Type 0} (o : Option C) (n s t : ℕ) (e : group.History)
-    → group.view_events n (in_group (drew o s t) ++ e) ≡ group.view_events n e
-drawn-view None n s t e = refl
-drawn-view (Some c) n s t e = refl
 
 -- the events of the view of a group that is made
 pub views-of : {C : Type 0} (g : ℕ) (h : History C) (m : Made C) → made_at g h ≡ Some m

@@ -30,7 +30,7 @@ use Rattle.lb_world.specs.Answers.{built_or_failed, of_job, of_built, flight_of,
 use Rattle.lb_world.specs.Answers.{numbers_of, selected}
 use Rattle.lb_world.specs.Refused.{TellsAlike, AnswersAlike, IsAsBefore, unrefused}
 use Rattle.lb_world.proofs.Refusing.{ap2, ap3, refused-alike, alike-sym, alike-then, at-alike, config-alike, key-alike, events-alike}
-use Rattle.lb_world.proofs.Refusing.{past-alike, alike-step, groups-alike}
+use Rattle.lb_world.proofs.Refusing.{past-alike, alike-step, groups-alike, views-alike}
 
 -- at what is there, alike
 at-one-alike : {A : Type 0} (o p : Option A) (f d : A → Answer) → o ≡ p → ((x : A) → f x ≡ d x) → at_one o f ≡ at_one p d
@@ -142,7 +142,7 @@ module _ {C : Type 0} (M : Meaning C) (k h : History C) (e : TellsAlike k h) whe
   judges-alike g n =
       let by : (Member → Member) → List ViewEvent → List registry.Event → Member → Bool → Type 0 =
       λ key views es b is. IsTrue is ↔ IsReady key views es n b in
-      ap3 by (key-alike k h e g) (e.rest.views g) (events-alike k h e g)
+      ap3 by (key-alike k h e g) (views-alike k h e g) (events-alike k h e g)
 
   loads-alike : (g : ℕ) → ◌≡◌ {A = Member → ℕ} (λ b. load_of g b k) (λ b. load_of g b h)
   loads-alike g = fun_ext (λ b. e.rest.loads g b)
@@ -277,9 +277,7 @@ module _ {C : Type 0} (M : Meaning C) where
               groups_made = refl;
               readers = refl;
               works = λ g s. refl;
-              views = λ g. refl;
               shared = λ r. refl;
-              cells = λ g n. refl;
               outs = λ a. refl;
               grants = λ a. refl;
               failures = λ a. refl;

@@ -25,17 +25,18 @@ use Rattle.lb_world.specs.declared.answer.Answer.{Answer}
 use Rattle.lb_world.specs.declared.answer.Answer.TheVariants as answer
 use Rattle.lb_world.specs.declared.step.Listing.{Listing}
 use Rattle.lb_world.specs.Meanings.{Meaning}
-use Rattle.lb_world.specs.History.{History, Made, members_in, made_at, slot_events}
-use Rattle.lb_world.specs.Shared.{settings_in, view_in, key_of, events_in, registry_events}
+use Rattle.lb_world.specs.History.{History, Made, members_in, made_at, settings_in, slot_events}
+use Rattle.lb_world.specs.Shared.{view_in, key_of, events_in, registry_events}
 use Rattle.lb_world.specs.Answers.{Answers, IsRun, at_one, has_refused, no_number, refuse, unless_refused, update_answer, without_memory}
-use Rattle.lb_world.specs.GroupEvents.{Updated, group_after_step, group_events, view_events}
+use Rattle.lb_world.specs.GroupEvents.{Updated, group_events, view_events}
 use Rattle.lb_world.proofs.Accepted.{goes-on, right_answer}
 use Rattle.lb_world.proofs.Causes.{caused, cause-first, number-left, number-wanted, out-of-memory, uncaused, wanted-both}
 use Rattle.lb_world.proofs.Joining.{follows}
 use Rattle.lb_world.proofs.Placing.{same-either}
 use Rattle.lb_world.proofs.Registered.{is-registered}
 use Rattle.lb_world.proofs.Sharing.{shares}
-use Rattle.lb_world.proofs.Together.{group-of, schedules-alike, views-of}
+use Rattle.lb_world.proofs.Together.{schedules-alike, views-of}
+use Rattle.lb_world.proofs.Own.{group-of, group_after_step, joined-after}
 
 -- a number is wanted for another membership alone
 unwanted : (c : Bool) (n : ℕ) → (c ≡ true → 2 ^ 64 ≤ n → ⊥) → cond c (no_number n) None ≡ None
@@ -162,7 +163,7 @@ module _ {C : Type 0} (M : Meaning C) (h : History C) (g now : ℕ) (ls : List L
             ≡ after_schedule (key_of g h) m.view (members_in ls) (settings_in ls) now (registry_events m.registry h) (group_events g h)
         joins a alike =
             sym (ap (λ b. cond b (group_after_step h (slot_events g h) (group_events g h) st a) (group_events g h)) (eq-eqb g g refl))
-            ∙ alike
+            ∙ sym (joined-after g h st a) ∙ alike
             ∙ ap
             (λ o.
             after_schedule (key_of g h) (view_in o) (members_in ls) (settings_in ls) now (events_in (option_map (λ x. x.registry) o) h)

@@ -9,6 +9,7 @@ use Rattle.lb_select_base.specs.Backends.{Member, same_member}
 use Rattle.lb_rebuild_core.specs.GroupHistory as group
 use Rattle.lb_rebuild_core.specs.SlotsHistory as slots
 use Rattle.lb_rebuild_core.specs.SlotsHistory.{SlotsEvent, Scheduled, Cancelled, At, newest, members_of}
+use Rattle.lb_world.specs.GroupEvents.{cells_in}
 use Rattle.lb_health_view.specs.Snapshots.{SnapshotValue, held_more, held_less, at_generation}
 use Rattle.lb_health_view.specs.ViewEvents.{ViewEvent, Shown, Held, Released, Set, generation_after, membership_after, by_age}
 use Rattle.lb_health_view.specs.ViewEvents.{snapshots_after}
@@ -131,14 +132,6 @@ holds k cells false (slots.Failed now ms) p views f = f
 holds k cells true slots.Destroyed p views f = released k cells (slots.generation_of (slots.extra p)) views f
 holds k cells false slots.Destroyed p views f = f
 holds k cells there x p views f = f
-
--- the cells of a generation, as the events of a group with its view tell them
-abbrev pub cells_in : ℕ → group.History → List (Member × ℕ)
-cells_in n [] = []
-cells_in n (group.Shown ms cells now ∷ e) = cond (newest (group.slot_events e) + 1 == n) cells (cells_in n e)
-cells_in n (group.Set b on ∷ e) = cells_in n e
-cells_in n (group.Cancelled ∷ e) = cells_in n e
-cells_in n (group.At i x ∷ e) = cells_in n e
 
 pub settings-cells : (n : ℕ) (settings : List (Member × Bool)) (e : group.History)
     → cells_in n (group.after_settings settings e) ≡ cells_in n e

@@ -15,17 +15,18 @@ pub use Rattle.lb_world.proofs.Refusing.{ap2, refused-alike}
 pub use Rattle.lb_world.proofs.Runs.{slots-fit}
 pub use Rattle.lb_world.proofs.Sharing.{shares}
 pub use Rattle.lb_world.proofs.Steps.{others-stay}
-pub use Rattle.lb_world.proofs.Together.{get-pushed, group-of}
+pub use Rattle.lb_world.proofs.Own.{group_after_step, group-of, happened, joined-after, own-step}
+pub use Rattle.lb_world.proofs.Together.{get-pushed}
 pub use Rattle.lb_world.specs.Answers.{Answers, IsRun, Judges, at_one, has_refused, no_number, no_such, refuse}
 pub use Rattle.lb_world.specs.Answers.{unless_refused, where_, without_memory}
 pub use Rattle.lb_world.specs.History.{History, Made, RegistryMade, Work, after, config, config_in, entries, gates, group_at}
-pub use Rattle.lb_world.specs.History.{slot_events, happened, is_at, is_out, load_of, made, made_at, members_in, past, registries}
-pub use Rattle.lb_world.specs.History.{registry_of, work, worked, works_at}
-pub use Rattle.lb_world.specs.GroupEvents.{group_after_step, group_events, view_events}
+pub use Rattle.lb_world.specs.History.{slot_events, is_at, is_out, load_of, made, made_at, members_in, past, registries}
+pub use Rattle.lb_world.specs.History.{marked, registry_of, settings_in, work, worked, works_at}
+pub use Rattle.lb_world.specs.GroupEvents.{group_events, view_events}
 pub use Rattle.lb_world.specs.Meanings.{Meaning, meaning_of}
 pub use Rattle.lb_world.specs.Refused.{unrefused}
-pub use Rattle.lb_world.specs.Shared.{changed, events_in, key_at, key_by, key_in, key_of, marked, registry_at, registry_events}
-pub use Rattle.lb_world.specs.Shared.{settings_in, view_in}
+pub use Rattle.lb_world.specs.Shared.{changed, events_in, key_at, key_by, key_in, key_of, registry_at, registry_events}
+pub use Rattle.lb_world.specs.Shared.{view_in}
 pub use Rattle.lb_world.specs.Steps.{Step}
 pub use Rattle.lb_world.specs.declared.answer.Answer.{Answer}
 pub use Rattle.lb_world.specs.declared.step.Listing.{Listing}

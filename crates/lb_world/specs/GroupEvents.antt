@@ -1,39 +1,40 @@
 -- What a history did to a group and to its view, in the words of a group that is joined with its view.
-use Rattle.std.specs.Prelude.{◌≡◌, ℕ, true, false, List, [], ◌∷◌, ◌++◌, length, Option, Some, None, if◌then◌else◌}
+use Rattle.std.specs.Prelude.{◌≡◌, ℕ, ◌+◌, ◌==◌, List, [], ◌∷◌, length, Option, Some, None, if◌then◌else◌}
 use Rattle.lb_select_base.specs.Backends.{Member}
 use Rattle.lb_health_core.specs.RegistryEvents.{shown_cells}
 use Rattle.lb_health_view.specs.ViewEvents.{ViewEvent}
 use Rattle.lb_rebuild_core.specs.SlotsHistory as slots
 use Rattle.lb_rebuild_core.specs.GroupCalls.{after_schedule}
 use Rattle.lb_rebuild_core.specs.GroupHistory as group
-use Rattle.lb_rebuild_core.specs.GroupHistory.{Shown, Set, in_group, after_settings}
+use Rattle.lb_rebuild_core.specs.GroupHistory.{Shown, Set}
 use Rattle.lb_world.specs.Steps.{Step}
 use Rattle.lb_world.specs.Steps as step
 use Rattle.lb_world.specs.declared.answer.Answer.{Answer}
 use Rattle.lb_world.specs.declared.answer.Answer.TheVariants as answer
 use Rattle.lb_world.specs.declared.step.Listing.{Listing}
-use Rattle.lb_world.specs.History.{History, Made, is_at, members_in, made_at, registry_of, group_at, happened, slot_events}
-use Rattle.lb_world.specs.Shared.{settings_in, view_in, key_of, events_in}
+use Rattle.lb_world.specs.History.{History, Made, members_in, settings_in, made_at, registry_of, joined, slot_events}
+use Rattle.lb_world.specs.Shared.{view_in, key_of, events_in}
+
+-- the cells of generation n, as the events of a group with its view tell them
+abbrev pub cells_in : ℕ → group.History → List (Member × ℕ)
+cells_in n [] = []
+cells_in n (Shown ms cells now ∷ e) = if slots.newest (group.slot_events e) + 1 == n then cells else cells_in n e
+cells_in n (Set b on ∷ e) = cells_in n e
+cells_in n (group.Cancelled ∷ e) = cells_in n e
+cells_in n (group.At i x ∷ e) = cells_in n e
 
 module _ {C : Type 0} where
   -- the cells that the members of an update get when they are shown
   abbrev pub cells_for : ℕ → List Listing → History C → List (Member × ℕ)
   cells_for g listings h = shown_cells (key_of g h) (view_in (made_at g h)) (members_in listings) (events_in (registry_of g h) h)
 
-  -- What a step did to its group and the view, by its answer; k are the group's events before, and e those with the view's.
-  abbrev pub group_after_step : History C → slots.History → group.History → Step C → Answer → group.History
-  group_after_step h k e (step.update g now listings) (answer.Generation n) =
-      after_settings (settings_in listings) (Shown (members_in listings) (cells_for g listings h) now ∷ e)
-  group_after_step h k e (step.update g now listings) (answer.Same n) = after_settings (settings_in listings) e
-  group_after_step h k e (step.enable g (Some b)) answer.Done = Set b true ∷ e
-  group_after_step h k e (step.disable g (Some b)) answer.Done = Set b false ∷ e
-  group_after_step h k e st a = in_group (happened h k st a) ++ e
-
   -- what happened to a group that is joined with its view
   abbrev pub group_events : ℕ → History C → group.History
-  group_events g [] = []
-  group_events g ((st, a) ∷ h) =
-      if is_at g (group_at h st) then group_after_step h (slot_events g h) (group_events g h) st a else group_events g h
+  group_events g h = joined cells_for g h
+
+  -- the cells that the backends of generation n had when it was shown
+  abbrev pub cells_of : ℕ → ℕ → History C → List (Member × ℕ)
+  cells_of g n h = cells_in n (group_events g h)
 
   -- the view's events are among them: none before the group is made, and then those that its slots and its memberships give
   abbrev pub views_in : Option (Made C) → group.History → List ViewEvent
@@ -44,7 +45,7 @@ module _ {C : Type 0} where
   abbrev pub view_events : ℕ → History C → List ViewEvent
   view_events g h = views_in (made_at g h) (group_events g h)
 
-  -- and so are the group's own
+  -- and so are the group's own, whatever the cells
   abbrev pub JoinsAlike : ℕ → History C → Type 0
   JoinsAlike g h = group.slot_events (group_events g h) ≡ slot_events g h
 

@@ -1,11 +1,16 @@
 -- A history: the steps that a world took, each with its answer, the last first. What was made, who reads, what happened to each
--- group, and what is held of each job, is one short recursion each; what a group's events mean is defined by the crate of groups.
+-- group and its view, and what is held of each job, is one short recursion each; what a group's events mean is defined by the crate of
+-- groups.
 use Rattle.std.specs.Prelude.{ℕ, ◌+◌, ◌-◌, Bool, true, false, ◌&&◌, ◌||◌, ◌==◌, List, [], ◌∷◌, ◌++◌, length, filter, Option, Some, None}
-use Rattle.std.specs.Prelude.{if◌then◌else◌, slice_get, slice_set}
+use Rattle.std.specs.Prelude.{if◌then◌else◌, fold, slice_get, slice_set}
+use Rattle.std.specs.BTreeMap.{insert_entry}
 use Rattle.std.specs.List.{filter_map}
 use Rattle.std.specs.Option.{option_map}
-use Rattle.lb_select_base.specs.Backends.{Member, same_member}
+use Rattle.lb_select_base.specs.Backends.{Member, member_cmp, same_member}
 use Rattle.lb_select_base.specs.Memberships.{set_of}
+use Rattle.lb_health_core.specs.Keys.{by_identity}
+use Rattle.lb_rebuild_core.specs.GroupHistory as group
+use Rattle.lb_rebuild_core.specs.GroupHistory.{Shown, Set, Cancelled, At, after_settings}
 use Rattle.lb_rebuild_core.specs.Laws.{number}
 use Rattle.lb_rebuild_core.specs.SlotsHistory as slots
 use Rattle.lb_world.specs.Steps.{Step}
@@ -81,6 +86,24 @@ slot_in (Some (Some e)) = e.slot
 abbrev pub reads : ℕ → ℕ → ℕ → Option Entered → Bool
 reads g s n None = false
 reads g s n (Some e) = e.group == g && (e.slot == s && e.generation == n)
+
+-- a mark of an update, with the identity that it is for
+abbrev pub marked : Option Member → Option Bool → Option (Member × Bool)
+marked None on = None
+marked (Some b) None = None
+marked (Some b) (Some on) = Some (by_identity b, on)
+
+-- the settings of an update: a map by identity, in which the last mark of an identity counts
+abbrev pub settings_in : List Listing → List (Member × Bool)
+settings_in listings = fold (λ entries e. insert_entry member_cmp entries e.0 e.1) [] (filter_map (λ l. marked l.backend l.mark) listings)
+
+-- the cells that the members of an update of a group get, after a history
+abbrev pub GivenCells : Type 0 → Type 0
+GivenCells C = ℕ → List Listing → History C → List (Member × ℕ)
+
+-- the members of the last job of a slot
+abbrev pub job_members : ℕ → group.History → List Member
+job_members s e = slots.granted_members (slots.past_of s (group.slot_events e))
 
 module _ {C : Type 0} where
   -- how many of these groups are over that registry
@@ -186,41 +209,45 @@ module _ {C : Type 0} where
   work g s [] = idle
   work g s ((st, a) ∷ h) = if works_at g s st then worked st a (work g s h) else work g s h
 
-  -- where a selection left the counter of tickets of a slot that is there
-  abbrev pub drew : Option C → ℕ → ℕ → slots.History
-  drew None s t = []
-  drew (Some c) s t = slots.At s (slots.Drew t) ∷ []
+  -- a selection left the counter of tickets of a slot that is there at t
+  abbrev pub drew : Option C → ℕ → ℕ → group.History → group.History
+  drew None s t e = e
+  drew (Some c) s t e = At s (slots.Drew t) ∷ e
 
-  -- What a step did to its group, by its answer, the newest first; k are the group's events before. A job comes back with the
-  -- members that it went out with.
-  abbrev pub happened : History C → slots.History → Step C → Answer → slots.History
-  happened h k (step.update g now listings) (answer.Generation n) = slots.Scheduled (members_in listings) now ∷ []
-  happened h k (step.ask g s now) (answer.Build n) = slots.At s (slots.Granted now) ∷ []
-  happened h k (step.build g s now) (answer.BuildFailed n r) =
-      slots.At s (slots.Failed now (slots.granted_members (slots.past_of s k))) ∷ []
-  happened h k (step.failbuild g s now) (answer.Failed n) =
-      slots.At s (slots.Failed now (slots.granted_members (slots.past_of s k))) ∷ []
-  happened h k (step.lost g s) (answer.Lost n) = slots.At s slots.WorkerLost ∷ []
-  happened h k (step.publish g s) (answer.Published n) =
-      slots.At s (slots.Published (ended (work g s h)) (slots.granted_members (slots.past_of s k))) ∷ []
-  happened h k (step.publish g s) (answer.Abandoned n) =
-      slots.At s (slots.Abandoned (slots.granted_members (slots.past_of s k))) ∷ []
-  happened h k (step.abandon g s) (answer.Abandoned n) =
-      slots.At s (slots.Abandoned (slots.granted_members (slots.past_of s k))) ∷ []
-  happened h k (step.enter g s) (answer.Reader t n) = slots.At s slots.Entered ∷ []
-  happened h k (step.leave t) (answer.Left n) = slots.At (slot_in (slice_get (entries h) t)) (slots.Left n) ∷ []
-  happened h k (step.destroy g s) answer.Destroyed = slots.At s slots.Destroyed ∷ slots.At s slots.TakenOut ∷ []
-  happened h k (step.select g s key limit words) (answer.Backend b t) = drew (config g s h) s t
-  happened h k (step.select g s key limit words) (answer.NoBackend t) = drew (config g s h) s t
-  happened h k (step.select g s key limit words) (answer.NotSelected t) = drew (config g s h) s t
-  happened h k (step.cancel g) answer.Cancelled = slots.Cancelled ∷ []
-  happened h k st a = []
+  -- What a step did to its group and the group's view, by its answer, the newest first; e is what happened to them before. The cells
+  -- that an update's members get are given by its group, its listings and what came before. A job comes back with the members that it
+  -- went out with.
+  abbrev pub joined_step : GivenCells C → History C → group.History → Step C → Answer → group.History
+  joined_step cells h e (step.update g now listings) (answer.Generation n) =
+      after_settings (settings_in listings) (Shown (members_in listings) (cells g listings h) now ∷ e)
+  joined_step cells h e (step.update g now listings) (answer.Same n) = after_settings (settings_in listings) e
+  joined_step cells h e (step.ask g s now) (answer.Build n) = At s (slots.Granted now) ∷ e
+  joined_step cells h e (step.build g s now) (answer.BuildFailed n r) = At s (slots.Failed now (job_members s e)) ∷ e
+  joined_step cells h e (step.failbuild g s now) (answer.Failed n) = At s (slots.Failed now (job_members s e)) ∷ e
+  joined_step cells h e (step.lost g s) (answer.Lost n) = At s slots.WorkerLost ∷ e
+  joined_step cells h e (step.publish g s) (answer.Published n) = At s (slots.Published (ended (work g s h)) (job_members s e)) ∷ e
+  joined_step cells h e (step.publish g s) (answer.Abandoned n) = At s (slots.Abandoned (job_members s e)) ∷ e
+  joined_step cells h e (step.abandon g s) (answer.Abandoned n) = At s (slots.Abandoned (job_members s e)) ∷ e
+  joined_step cells h e (step.enter g s) (answer.Reader t n) = At s slots.Entered ∷ e
+  joined_step cells h e (step.leave t) (answer.Left n) = At (slot_in (slice_get (entries h) t)) (slots.Left n) ∷ e
+  joined_step cells h e (step.destroy g s) answer.Destroyed = At s slots.Destroyed ∷ At s slots.TakenOut ∷ e
+  joined_step cells h e (step.select g s key limit words) (answer.Backend b t) = drew (config g s h) s t e
+  joined_step cells h e (step.select g s key limit words) (answer.NoBackend t) = drew (config g s h) s t e
+  joined_step cells h e (step.select g s key limit words) (answer.NotSelected t) = drew (config g s h) s t e
+  joined_step cells h e (step.enable g (Some b)) answer.Done = Set b true ∷ e
+  joined_step cells h e (step.disable g (Some b)) answer.Done = Set b false ∷ e
+  joined_step cells h e (step.cancel g) answer.Cancelled = Cancelled ∷ e
+  joined_step cells h e st a = e
 
-  -- what happened to a group
+  -- what happened to a group that is joined with its view, by the cells that the members of its updates get
+  abbrev pub joined : GivenCells C → ℕ → History C → group.History
+  joined cells g [] = []
+  joined cells g ((st, a) ∷ h) =
+      if is_at g (group_at h st) then joined_step cells h (joined cells g h) st a else joined cells g h
+
+  -- what happened to the group itself, in which there are no cells
   abbrev pub slot_events : ℕ → History C → slots.History
-  slot_events g [] = []
-  slot_events g ((st, a) ∷ h) =
-      if is_at g (group_at h st) then happened h (slot_events g h) st a ++ slot_events g h else slot_events g h
+  slot_events g h = group.slot_events (joined (λ i listings k. []) g h)
 
   -- the past of a slot
   abbrev pub past : ℕ → ℕ → History C → slots.History

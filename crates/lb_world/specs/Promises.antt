@@ -1,6 +1,6 @@
 -- What holds of every run, in the words of the promises. What is promised of a slot alone is said by the crate of groups, of the
 -- slot's past.
-use Rattle.std.specs.Prelude.{◌≡◌, ◌≤◌, ◌<◌, ◌==◌, ◌+◌, ℕ, Bool, true, false, List, [], ◌∷◌, length, count_by, Some}
+use Rattle.std.specs.Prelude.{◌≡◌, ◌≤◌, ◌<◌, ◌==◌, ◌+◌, ℕ, true, false, List, [], ◌∷◌, length, count_by, Some}
 use Rattle.std.specs.Prelude.{if◌then◌else◌, slice_get}
 use Rattle.std.specs.List.{AllByRecursion as Each, list_any}
 use Rattle.std.specs.Option.{IsSomeAnd}
@@ -18,8 +18,8 @@ use Rattle.lb_world.specs.declared.answer.Answer.{Answer}
 use Rattle.lb_world.specs.declared.answer.Answer.TheVariants as answer
 use Rattle.lb_world.specs.History.{History, Made, idle, is_at, members_in, reads, made, made_at, slot_gate, entries, group_at}
 use Rattle.lb_world.specs.History.{work, slot_events, past, extras, is_out, registry_of}
-use Rattle.lb_world.specs.Shared.{is_live, extra_at, key_of, events_in, cells_of, registry_at, registry_events}
-use Rattle.lb_world.specs.GroupEvents.{group_events, view_events}
+use Rattle.lb_world.specs.Shared.{is_live, extra_at, key_of, events_in, registry_at, registry_events}
+use Rattle.lb_world.specs.GroupEvents.{group_events, cells_of, view_events}
 
 module _ {C : Type 0} where
   -- the slot has a flight, a lost flight, or a retired selector that is not reported destroyed

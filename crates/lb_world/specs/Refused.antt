@@ -2,37 +2,37 @@
 -- A selection that memory was refused to has drawn tickets, and left all else.
 use Rattle.std.specs.Prelude.{◌≡◌, ◌↔◌, ◌≤◌, ◌==◌, ◌+◌, ◌%◌, ◌^◌, ℕ, [], ◌∷◌, ◌++◌, if◌then◌else◌}
 use Rattle.lb_select_base.specs.Backends.{Member}
+use Rattle.lb_rebuild_core.specs.GroupHistory as group
 use Rattle.lb_rebuild_core.specs.SlotsHistory as slots
 use Rattle.lb_world.specs.Steps.{Step}
 use Rattle.lb_world.specs.Steps as step
 use Rattle.lb_world.specs.declared.answer.Answer.{Answer}
 use Rattle.lb_world.specs.declared.answer.Answer.TheVariants as answer
 use Rattle.lb_world.specs.Meanings.{Meaning}
-use Rattle.lb_world.specs.History.{History, registries, gates, made, entries, work, slot_events, past, is_out, is_grant, is_failure}
+use Rattle.lb_world.specs.History.{History, registries, gates, made, entries, work, past, is_out, is_grant, is_failure}
 use Rattle.lb_world.specs.History.{is_destruction, count_on, load_of}
-use Rattle.lb_world.specs.Shared.{registry_events, cells_of}
-use Rattle.lb_world.specs.GroupEvents.{group_events, view_events}
+use Rattle.lb_world.specs.Shared.{registry_events}
+use Rattle.lb_world.specs.GroupEvents.{group_events}
 use Rattle.lb_world.specs.Answers.{Answers, IsRun}
 
 module _ {C : Type 0} where
-  -- Two histories give the same of what was made and who reads, what is held of each job, what happened to each view and registry,
-  -- which permits are out and what was counted for them, and every load.
+  -- Two histories give the same of what was made and who reads, what is held of each job, what happened to each registry, which
+  -- permits are out and what was counted for them, and every load.
   pub record RestAlike (h k : History C) : Type 0 where
     pub registries_made : registries h ≡ registries k
     pub gates_made : gates h ≡ gates k
     pub groups_made : made h ≡ made k
     pub readers : entries h ≡ entries k
     pub works : (g s : ℕ) → work g s h ≡ work g s k
-    pub views : (g : ℕ) → view_events g h ≡ view_events g k
     pub shared : (r : ℕ) → registry_events r h ≡ registry_events r k
-    pub cells : (g n : ℕ) → cells_of g n h ≡ cells_of g n k
     pub outs : (a : ℕ) → is_out a h ≡ is_out a k
     pub grants : (a : ℕ) → count_on is_grant a h ≡ count_on is_grant a k
     pub failures : (a : ℕ) → count_on is_failure a h ≡ count_on is_failure a k
     pub destructions : (a : ℕ) → count_on is_destruction a h ≡ count_on is_destruction a k
     pub loads : (g : ℕ) (b : Member) → load_of g b h ≡ load_of g b k
 
-  -- They give the same of everything: of what happened to each group too, joined with its view.
+  -- They give the same of everything: of what happened to each group too, joined with its view, which tells its own events, those of
+  -- its view, and the cells of each generation.
   pub record TellsAlike (h k : History C) : Type 0 where
     pub rest : RestAlike h k
     pub joined : (g : ℕ) → group_events g h ≡ group_events g k
@@ -43,13 +43,14 @@ module _ {C : Type 0} where
   unrefused ((st, answer.Refused r) ∷ h) = unrefused h
   unrefused ((st, a) ∷ h) = (st, a) ∷ unrefused h
 
-  -- Only the counter of tickets of one slot went on, by one ticket more than the limit at most; it is at t now.
+  -- Only the counter of tickets of one slot went on, by one ticket more than the limit at most; it is at t now. So the group's view
+  -- and the cells of its generations are as they were.
   pub record DrewAlone (h now : History C) (g s limit t : ℕ) : Type 0 where
     pub tickets : ℕ
     pub few : tickets ≤ limit + 1
     pub counter : t % 2 ^ 64 ≡ (slots.drawn (past g s h) + tickets) % 2 ^ 64
-    pub groups : (i : ℕ) → slot_events i now
-        ≡ (if g == i then slots.At s (slots.Drew t) ∷ slot_events i h else slot_events i h)
+    pub joined : (i : ℕ) → group_events i now
+        ≡ (if g == i then group.At s (slots.Drew t) ∷ group_events i h else group_events i h)
     pub rest : RestAlike now h
 
 module _ {C : Type 0} (M : Meaning C) where

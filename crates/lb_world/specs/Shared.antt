@@ -1,16 +1,13 @@
 -- What a history did to each registry, in the words of the registry's own events. A snapshot of a view lives while it is the newest
 -- or some slot holds it, which the events of its group tell: so the events of a registry need no view.
-use Rattle.std.specs.Prelude.{ℕ, ◌+◌, Bool, true, false, ◌||◌, ◌==◌, nat_lt, List, [], ◌∷◌, length, fold, Option, Some, None}
+use Rattle.std.specs.Prelude.{ℕ, ◌+◌, Bool, true, false, ◌||◌, ◌==◌, nat_lt, List, [], ◌∷◌, length, Option, Some, None}
 use Rattle.std.specs.Prelude.{if◌then◌else◌, slice_get}
-use Rattle.std.specs.List.{filter_map}
-use Rattle.std.specs.BTreeMap.{insert_entry}
-use Rattle.lb_select_base.specs.Backends.{Member, member_cmp}
+use Rattle.lb_select_base.specs.Backends.{Member}
 use Rattle.lb_health_core.specs.Keys.{by_identity, by_address}
 use Rattle.lb_health_core.specs.RegistryEvents as registry
 use Rattle.lb_rebuild_core.specs.SlotsHistory as slots
 use Rattle.lb_rebuild_core.specs.GroupHistory.{holders}
 use Rattle.lb_world.specs.Steps.{Step}
-use Rattle.lb_world.specs.declared.step.Listing.{Listing}
 use Rattle.lb_world.specs.declared.step.CellKey.{CellKey}
 use Rattle.lb_world.specs.declared.step.CellKey.TheVariants.{Identity, Address}
 use Rattle.lb_world.specs.Steps as step
@@ -32,16 +29,6 @@ key_in (Some m) = key_by m.rule
 abbrev pub started : Bool → List registry.Event
 started true = []
 started false = registry.Configured false ∷ []
-
--- a mark of an update, with the identity that it is for
-abbrev pub marked : Option Member → Option Bool → Option (Member × Bool)
-marked None on = None
-marked (Some b) None = None
-marked (Some b) (Some on) = Some (by_identity b, on)
-
--- the settings of an update: a map by identity, in which the last mark of an identity counts
-abbrev pub settings_in : List Listing → List (Member × Bool)
-settings_in listings = fold (λ entries e. insert_entry member_cmp entries e.0 e.1) [] (filter_map (λ l. marked l.backend l.mark) listings)
 
 -- a generation lives while it is the newest or some slot has it in use: it is served, in a flight or a lost flight, or retired
 abbrev pub is_live : {C : Type 0} → ℕ → List C → slots.History → Bool
@@ -114,15 +101,3 @@ module _ {C : Type 0} where
 
   abbrev pub key_of : ℕ → History C → Member → Member
   key_of g h = key_in (registry_made (registry_of g h) h)
-
-  -- the cells that the backends of generation n had when it was shown
-  abbrev pub cells_of : ℕ → ℕ → History C → List (Member × ℕ)
-  cells_of g n [] = []
-  cells_of g n ((step.update at now listings, answer.Generation m) ∷ h) =
-      if at == g
-      then
-      if slots.newest (slot_events g h) + 1 == n
-      then registry.shown_cells (key_of g h) (view_in (made_at g h)) (members_in listings) (events_in (registry_of g h) h)
-      else cells_of g n h
-      else cells_of g n h
-  cells_of g n ((st, a) ∷ h) = cells_of g n h

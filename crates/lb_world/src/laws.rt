@@ -42,8 +42,8 @@ pub fn views_stay_registered<S: BackendSelection>()
     ensures { (h : History S.Config) → IsRun (meaning_of S.BackendSelection) h → (g : ℕ) → IsRegistered g h }
 {}
 
-/// What happens to a group is what happens to a group that is joined with its view: its events describe the group as well, and those of an
-/// update are what the call does that gives the group its membership.
+/// What happens to a group is what happens to a group that is joined with its view: the joined events tell the group's own, whatever the
+/// cells, and those of an update are what the call does that gives the group its membership.
 pub fn groups_stand_on_views<S: BackendSelection>()
     ensures now { (h : History S.Config) → IsRun (meaning_of S.BackendSelection) h → (g : ℕ) → JoinsAlike g h }
     ensures updates { (h : History S.Config) (st : Step S.Config) (a : Answer) → IsRun (meaning_of S.BackendSelection) ((st, a) ∷ h)

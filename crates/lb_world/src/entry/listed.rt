@@ -8,8 +8,7 @@ ghost use Rattle.lb_health_core.specs.Keys.{by_identity};
 ghost use Rattle.lb_select_base.specs.Memberships.{same_members};
 ghost use Rattle.lb_world.specs.Internal.Calls.{none_or, some_and, set_marked, with_key};
 ghost use Rattle.lb_health_view.specs.RegistrySide.{settings_of};
-ghost use Rattle.lb_world.specs.History.{members_in};
-ghost use Rattle.lb_world.specs.Shared.{marked, settings_in};
+ghost use Rattle.lb_world.specs.History.{marked, members_in, settings_in};
 
 use crate::step::Listing;
 use lb_health_view::view::Settings;
