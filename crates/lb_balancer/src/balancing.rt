@@ -31,11 +31,13 @@ use lb_select_base::moments::MomentSource;
 use lb_select_base::refusal::Refusal;
 use lb_select_base::walk::BackendSelection;
 use lb_threads_core::backends::{Backends, BackendsParts};
+use lb_threads_core::generators::LaneGenerators;
 use lb_threads_core::lanes::Lanes;
 use lb_threads_core::lock::KeyedLock;
 use lb_threads_core::owner::ViewOwner;
 use lb_threads_core::registry::{HealthRegistry, put_registry, take_registry};
 use log::Log;
+use rand_pcg::Pcg64;
 use std::alloc::Global;
 use std::collections::BTreeSet;
 use std::marker::Model;
@@ -53,11 +55,13 @@ type ShownLock<S, D> = KeyedLock<Arc<Shown<S>>, Snapshot<Origin<S, D>>, OfShown>
 // The number of lanes: as many as threads that select at once may want, a power of two.
 const LANES: usize = 64;
 
-// What a balancer has for its threads: the locks of what is served and of what is shown of it, the lanes, and the loads.
+// What a balancer has for its threads: the locks of what is served and of what is shown of it, the lanes with their generators, and the
+// loads.
 struct Places<S: BackendSelection, D> {
     serving: ServingLock<S, D>,
     shown: ShownLock<S, D>,
     lanes: Lanes<KeptShown<S, D>>,
+    generators: LaneGenerators,
     loads: Arc<Mutex<Loads>>,
 }
 
@@ -72,6 +76,8 @@ pub struct Balancing<S: BackendSelection, D, R: KeyRule + Drop, C> {
     serving: ServingLock<S, D>,
     shown: ShownLock<S, D>,
     pub(crate) lanes: Lanes<KeptShown<S, D>>,
+    // The random words of each lane.
+    pub(crate) generators: LaneGenerators,
     timing: Mutex<Option<UpdateTimings>>,
     loads: Arc<Mutex<Loads>>,
     // Counts what may have changed what is ready, but for the registry's own changes.
@@ -89,6 +95,7 @@ impl<S: BackendSelection, D: Drop, R: KeyRule + Drop, C: Drop> Drop for Balancin
             serving: _,
             shown: _,
             lanes: _,
+            generators: _,
             timing: _,
             loads: _,
             changes: _,
@@ -187,6 +194,7 @@ impl<
             serving,
             shown,
             lanes,
+            generators,
             loads,
         } = places;
         Balancing {
@@ -197,6 +205,7 @@ impl<
             serving,
             shown,
             lanes,
+            generators,
             timing: Mutex::new(timing),
             loads,
             changes: AtomicU64::new(0),
@@ -680,6 +689,7 @@ fn places_over<S: BackendSelection, D, R: KeyRule + Drop, C: HealthCheck + Drop,
     };
     let loads = Arc::new(alloc, Mutex::new(Loads::new()))?;
     let lanes = Lanes::new(alloc, LANES, origin)?;
+    let generators = LaneGenerators::new(alloc, LANES, Pcg64::new(0, 0))?;
     let cells = take_registry(registry, rt);
     let told = shown_of(alloc, &serving, &cells.value, &loads, version, origin);
     put_registry(registry, cells);
@@ -689,6 +699,7 @@ fn places_over<S: BackendSelection, D, R: KeyRule + Drop, C: HealthCheck + Drop,
         serving: KeyedLock::new(alloc, serving, &key)?,
         shown: KeyedLock::new(alloc, shown, &key)?,
         lanes,
+        generators,
         loads,
     })
 }

@@ -60,7 +60,8 @@ impl<
         if shown.version() != self.version() {
             return None;
         }
-        Some(shown.select_with(rt, alloc, key, max_iterations, accept))
+        let generator = Some(self.generators.of_lane(hint));
+        Some(shown.select_drawing(rt, alloc, generator, key, max_iterations, accept))
     }
 
     // Gives the hint's lane what is shown. Where something changed meanwhile, the lane is emptied, so that none has for long what isn't

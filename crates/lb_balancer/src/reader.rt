@@ -7,23 +7,25 @@ ghost use Rattle.lb_balancer.specs.Selections.{SelectsFrom};
 
 use crate::balancing::Balancing;
 use crate::load_balancer::LoadBalancer;
-use crate::shown::Shown;
+use crate::shown::{Shown, ready_ones};
 use lb_health_core::health_check::HealthCheck;
 use lb_health_core::keys::KeyRule;
 use lb_health_view::discovery::ServiceDiscovery;
 use lb_select_base::backend::Backend;
 use lb_select_base::refusal::Refusal;
 use lb_select_base::walk::BackendSelection;
+use lb_threads_core::generators::LaneGenerator;
 use std::alloc::Global;
 use std::sync::{Arc, Wait};
 
-/// A balancer with what it served last. While that is still served a selection takes no lock but that of random words or of loads, where
-/// the selector goes by these, and writes nothing that another thread reads but the words it draws. What is served no longer is kept
-/// until the next selection.
+/// A balancer with what it served last, and with random words of its own. While that is still served a selection takes no lock but that of
+/// loads, where the selector goes by these, and writes nothing that another thread reads but the tickets it draws. What is served no
+/// longer is kept until the next selection.
 #[derive(Drop)]
 pub struct BalancerReader<'b, S: BackendSelection, D, R: KeyRule + Drop, C> {
     balancing: &'b Balancing<S, D, R, C>,
     seen: Arc<Shown<S>>,
+    generator: LaneGenerator,
     ghost own: { IsShownBy balancing.now (arc_value seen) },
 }
 
@@ -46,7 +48,11 @@ impl<
     {
         let balancing = &self.shared;
         let seen = balancing.shown(rt, alloc)?;
-        Ok(BalancerReader { balancing, seen })
+        Ok(BalancerReader {
+            balancing,
+            seen,
+            generator: balancing.generators.of_none().seeded(rt),
+        })
     }
 }
 
@@ -97,9 +103,7 @@ impl<
         ensures refused { IfErr result (λ e. e ≡ Refusal.OutOfMemory) }
         ensures same { self.new.balancing ≡ self.old.balancing }
     {
-        self.look(rt, alloc)?;
-        let seen: &Shown<S> = &*self.seen;
-        seen.select(rt, alloc, key, max_iterations)
+        self.select_with(rt, alloc, key, max_iterations, &ready_ones)
     }
 
     /// Returns the first backend that `accept` takes, as `LoadBalancer::select_with` does.
@@ -121,6 +125,7 @@ impl<
     {
         self.look(rt, alloc)?;
         let seen: &Shown<S> = &*self.seen;
-        seen.select_with(rt, alloc, key, max_iterations, accept)
+        let generator = Some(&self.generator);
+        seen.select_drawing(rt, alloc, generator, key, max_iterations, accept)
     }
 }

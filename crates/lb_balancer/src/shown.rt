@@ -13,6 +13,7 @@ use lb_select_base::refusal::Refusal;
 use lb_select_base::select::select;
 use lb_select_base::walk::BackendSelection;
 use lb_select_base::words::SharedWords;
+use lb_threads_core::generators::LaneGenerator;
 use std::alloc::Global;
 use std::collections::BTreeSet;
 use std::marker::Model;
@@ -115,6 +116,24 @@ impl<S: BackendSelection> Shown<S> {
         ensures answers { SelectsOf same_member (AcceptsBy F.Fn accept.now (λ b ready. ready ≡ is_up self.now.unready b)) max_iterations
             (S.walks self.now.members self.now.config key.now) result }
     {
+        self.select_drawing(rt, alloc, None, key, max_iterations, accept)
+    }
+
+    // Selects as `select_with`, with random words of this generator, or of the selector's own for `None`.
+    #[inline]
+    pub(crate) fn select_drawing<W: Wait, F: Fn(&Backend, bool) -> bool>(
+        &self,
+        rt: &W,
+        alloc: Global,
+        generator: Option<&LaneGenerator>,
+        key: &[u8],
+        max_iterations: usize,
+        accept: &F,
+    ) -> Result<Option<Backend>, Refusal>
+        requires { F.IsAlwaysCallable accept.now }
+        ensures answers { SelectsOf same_member (AcceptsBy F.Fn accept.now (λ b ready. ready ≡ is_up self.now.unready b)) max_iterations
+            (S.walks self.now.members self.now.config key.now) result }
+    {
         let unready = &self.unready;
         let judged = |backend: &Backend| -> bool
             requires { F.IsAlwaysCallable accept.now }
@@ -123,6 +142,7 @@ impl<S: BackendSelection> Shown<S> {
         let shared: &SharedWords = &*self.words;
         let mut words = LoadedWords {
             words: shared.lend(rt),
+            generator,
             loads: &*self.loads,
             rt,
         };

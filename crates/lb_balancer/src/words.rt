@@ -2,12 +2,15 @@
 use lb_select_base::backend::Backend;
 use lb_select_base::loads::Loads;
 use lb_select_base::words::{LentWords, WordSource};
+use lb_threads_core::generators::LaneGenerator;
 use std::sync::{Mutex, Wait};
 
 // The words of a selector with the loads of its balancer, borrowed for one walk. Other threads draw and set them too.
 #[derive(Drop)]
 pub(crate) struct LoadedWords<'a, R> {
     pub(crate) words: LentWords<'a, R>,
+    // Where random words are from, if not from the selector's words.
+    pub(crate) generator: Option<&'a LaneGenerator>,
     pub(crate) loads: &'a Mutex<Loads>,
     pub(crate) rt: &'a R,
 }
@@ -22,7 +25,10 @@ impl<'a, R: Wait> WordSource for LoadedWords<'a, R> {
     }
 
     fn random(&mut self) -> u64 {
-        self.words.random()
+        match self.generator {
+            Some(generator) => generator.random(self.rt),
+            None => self.words.random(),
+        }
     }
 
     // Held for this one load: a walk that reads none doesn't take the lock.

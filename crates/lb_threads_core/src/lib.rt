@@ -7,6 +7,7 @@
 pub mod backends;
 pub mod clock;
 pub mod gate;
+pub mod generators;
 pub mod keyed;
 pub mod lane;
 pub mod lanes;

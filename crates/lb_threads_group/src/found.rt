@@ -56,12 +56,13 @@ impl<S: BackendSelection, R: KeyRule + Drop, C> WordRule<Subject<S, R, C>> for O
     ghost holds = { λ of i w. SaysAt (ReadyAt R.gives of.site.value of.generation) of.marks.value.items i w };
 }
 
-// How many tickets were drawn from a selector, wrapping, with so much room that no other word shares its line of memory.
+// How many tickets were drawn from a selector, wrapping, with so much room that no other word shares its line of memory, nor the one beside
+// it, which processors fetch with it.
 #[derive(Drop)]
 struct Tickets {
-    before: [u64; 7],
+    before: [u64; 15],
     drawn: AtomicU64,
-    after: [u64; 7],
+    after: [u64; 15],
 }
 
 /// Which backends are ready for the readers of a generation, and how many tickets they drew. Contracts see of which group, registry and
@@ -170,9 +171,9 @@ impl<S: BackendSelection, R: KeyRule + Drop, C> Found<S, R, C> {
             marks,
             words,
             tickets: Tickets {
-                before: [0; 7],
+                before: [0; 15],
                 drawn: AtomicU64::new(0),
-                after: [0; 7],
+                after: [0; 15],
             },
         })
     }

@@ -21,13 +21,13 @@ use lb_select_base::moments::MomentSource;
 use lb_select_base::refusal::Refusal;
 use lb_select_base::walk::BackendSelection;
 use lb_threads_core::gate::SelectorRebuildGate;
+use lb_threads_core::generators::LaneGenerators;
 use lb_threads_core::keyed::NoRule;
 use lb_threads_core::lanes::Lanes;
 use lb_threads_core::lock::KeyedLock;
 use lb_threads_core::registry::{HealthRegistry, put_registry, take_registry};
 use lb_threads_core::rule::LockRule;
 use lb_threads_core::wakes::Wakes;
-use rand_core::Rng;
 use rand_pcg::Pcg64;
 use std::alloc::Global;
 use std::marker::Model;
@@ -58,13 +58,6 @@ struct SlotCounters {
     awaited_readers: AtomicU64,
 }
 
-// The random words of one lane, with so much room that two of them share no line of memory.
-#[derive(Drop)]
-struct LaneWords {
-    generator: Mutex<Pcg64>,
-    room: [u64; 14],
-}
-
 /// A group behind a lock, with its registry and its gate, which other groups may share, and its board outside the lock. Contracts see the
 /// board, the group as it was made (which one it is, its gate and its configurations), and the registry as it was made.
 pub struct SharedGroup<S: BackendSelection, R: KeyRule + Drop = Rule<NoRule>, C = BoxedCheck> {
@@ -72,7 +65,6 @@ pub struct SharedGroup<S: BackendSelection, R: KeyRule + Drop = Rule<NoRule>, C 
     pub(crate) board: Arc<Board>,
     pub(crate) registry: Arc<HealthRegistry<R, C>>,
     pub(crate) gate: Arc<SelectorRebuildGate>,
-    generator: Mutex<Pcg64>,
     pub(crate) loads: Mutex<Loads>,
     // Held by an update from its discovery to its membership.
     updates: Mutex<()>,
@@ -93,7 +85,7 @@ pub struct SharedGroup<S: BackendSelection, R: KeyRule + Drop = Rule<NoRule>, C 
     // How many threads asked for lanes of their own, wrapping.
     pub(crate) readers: AtomicU64,
     // The random words of each lane, for all slots.
-    generators: Vec<LaneWords>,
+    generators: LaneGenerators,
 }
 
 impl<S: BackendSelection, R: KeyRule + Drop, C: Drop> Drop for SharedGroup<S, R, C> {
@@ -103,7 +95,6 @@ impl<S: BackendSelection, R: KeyRule + Drop, C: Drop> Drop for SharedGroup<S, R,
             board: _,
             registry: _,
             gate: _,
-            generator: _,
             loads: _,
             updates: _,
             lines: _,
@@ -174,14 +165,12 @@ impl<S: BackendSelection, R: KeyRule + Drop, C: HealthCheck + Drop> SharedGroup<
         let lanes = lanes_of(alloc, board.word_count() - 1, &site)?;
         let words = words_of(alloc, board.word_count() - 1, &site)?;
         let lock = KeyedLock::new(alloc, watched, &key)?;
-        let mut generator = generator;
-        let generators = generators_of(alloc, &mut generator)?;
+        let generators = LaneGenerators::new(alloc, LANES, generator)?;
         Ok(SharedGroup {
             lock,
             board,
             registry,
             gate,
-            generator: Mutex::new(generator),
             loads: Mutex::new(Loads::new()),
             updates: Mutex::new(()),
             lines,
@@ -346,15 +335,12 @@ impl<S: BackendSelection, R: KeyRule + Drop, C: HealthCheck + Drop> SharedGroup<
 
     // The next random word of a lane.
     pub(crate) fn random_of<W: Wait>(&self, rt: &W, lane: u64) -> u64 {
-        match self.generators.get(lane as usize % LANES) {
-            Some(words) => words.generator.lock(rt).next_u64(),
-            None => self.random(rt),
-        }
+        self.generators.of_lane(lane).random(rt)
     }
 
     // The next random word of no lane.
     pub(crate) fn random<W: Wait>(&self, rt: &W) -> u64 {
-        self.generator.lock(rt).next_u64()
+        self.generators.of_none().random(rt)
     }
 
     /// Sets the load of a backend's identity, for all slots.
@@ -388,22 +374,6 @@ fn lines_of(alloc: Global, slots: usize) -> Result<Vec<SlotCounters>, Refusal>
         })?;
     }
     Ok(lines)
-}
-
-// A generator for each lane, seeded by the words of this one.
-fn generators_of(alloc: Global, seeds: &mut Pcg64) -> Result<Vec<LaneWords>, Refusal>
-    ensures { IfErr result (λ e. e ≡ Refusal.OutOfMemory) }
-{
-    let mut generators = Vec::with_capacity(alloc, LANES)?;
-    for _ in 0..LANES {
-        let state = u128::from(seeds.next_u64()) << 64 | u128::from(seeds.next_u64());
-        let stream = u128::from(seeds.next_u64());
-        generators.push(LaneWords {
-            generator: Mutex::new(Pcg64::new(state, stream)),
-            room: [0; 14],
-        })?;
-    }
-    Ok(generators)
 }
 
 // Empty lanes for so many slots.

@@ -1,13 +1,14 @@
--- The selection is one in what was seen.
-use Rattle.std.proofs.Common.{subst}
-use Rattle.lb_balancer.specs.Selections.{SelectsFrom}
-use Rattle.lb_balancer.specs.Shown.{ShownValue}
-use Rattle.lb_balancer.proofs.Memberships.{if-answered}
+-- What is accepted is what is ready.
+use Rattle.std.specs.Arc.{arc_value}
+use Rattle.lb_balancer.specs.Selections.{WasReady}
+use Rattle.lb_balancer.proofs.Judged.{of-told}
+use Rattle.lb_balancer.proofs.Memberships.{on-ok-more}
 use Rattle.lb_balancer.proofs.reader.BalancerReader.select.Goals as goal
 
 pub returns-clause-answers : goal.returns-clause-answers
 returns-clause-answers g c =
-    let Shown = ShownValue g.row.S-Config.Denot in
-    let walks = g.S.BackendSelection.walks in
-    let Selects : Shown → Type 0 = λ x. SelectsFrom (λ was_ready. was_ready) c.args.max_iterations walks c.args.key.now x c.select.result in
-    if-answered c.select.result _ (subst Selects c.deref-seen.ensures c.select.ensures.answers)
+    let r = c.select_with.result in
+    let seen = arc_value c.select_with.new.self.seen in
+    let walks = g.S.BackendSelection.walks seen.members seen.config c.args.key.now in
+    on-ok-more r _ _ c.select_with.ensures.answers
+    (λ found. of-told (WasReady seen) c.args.max_iterations walks r found (λ p told a is. is.met))

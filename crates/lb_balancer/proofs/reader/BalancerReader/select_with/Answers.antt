@@ -11,5 +11,5 @@ returns-clause-answers g c =
     let Shown = ShownValue g.row.S-Config.Denot in
     let walks = g.S.BackendSelection.walks in
     let accepts = AcceptsBy g.F.Fn c.args.accept.now in
-    let Selects : Shown → Type 0 = λ x. SelectsFrom accepts c.args.max_iterations walks c.args.key.now x c.select_with.result in
-    if-answered c.select_with.result _ (subst Selects c.deref-seen.ensures c.select_with.ensures.answers)
+    let Selects : Shown → Type 0 = λ x. SelectsFrom accepts c.args.max_iterations walks c.args.key.now x c.select_drawing.result in
+    if-answered c.select_drawing.result _ (subst Selects c.deref-seen.ensures c.select_drawing.ensures.answers)

@@ -5,7 +5,7 @@ use Rattle.lb_select_base.specs.Backends.{Member, same_member}
 use Rattle.lb_rebuild_core.specs.GroupCalls.{AcceptsBy}
 use Rattle.lb_balancer.specs.Shown.{SelectsOf, ShownValue, is_up}
 use Rattle.lb_balancer.proofs.Judged.{asked-of}
-use Rattle.lb_balancer.proofs.shown.Shown.select_with.Goals as goal
+use Rattle.lb_balancer.proofs.shown.Shown.select_drawing.Goals as goal
 
 pub returns : goal.returns
 returns g c =
