@@ -1,12 +1,12 @@
 -- A balancer that is made of texts: its backends are those at the addresses of the texts, and it was updated once.
-use Rattle.std.specs.Prelude.{◌≡◌, ◌⊎◌, ℕ, List, [], ◌∷◌, Option, Some, Ok, Err}
+use Rattle.std.specs.Prelude.{◌≡◌, ◌⊎◌, ◌≤◌, ◌+◌, ◌^◌, ℕ, List, [], ◌∷◌, Option, Some, None, Ok, Err}
 use Rattle.std.specs.Borrow.{Bor}
 use Rattle.lb_select_base.specs.Backends.{Member}
 use Rattle.lb_select_base.specs.declared.refusal.Refusal.{Refusal}
-use Rattle.lb_select_base.specs.declared.refusal.Refusal.TheVariants.{OutOfMemory}
+use Rattle.lb_select_base.specs.declared.refusal.Refusal.TheVariants.{NumbersExhausted, OutOfMemory}
 use Rattle.lb_health_core.specs.Keys.{by_identity}
 use Rattle.lb_health_core.specs.Registry.{RegistryValue, IsRegistryAfter}
-use Rattle.lb_health_core.specs.RegistryEvents.{Event, Applied, Registered}
+use Rattle.lb_health_core.specs.RegistryEvents.{Event, Applied, Registered, registered_after}
 use Rattle.lb_health_view.specs.RegistrySide.{registry_updated}
 use Rattle.lb_health_view.specs.Lookups.{IsMadeOf}
 use Rattle.lb_health_view.specs.declared.discovery.DiscoverySource.{DiscoverySource}
@@ -38,3 +38,37 @@ IsTextsRefusal texts build r =
     IsMadeOf texts (Err r)
     ⊎ ((r ≡ OutOfMemory) ⊎ ((build [] ≡ Some r) ⊎ ((members : List Member) × IsMadeOf texts (Ok members)
     × (update_cause (build members) by_identity 1 members one_view (Took [] ∷ []) ≡ Some r))))
+
+-- a registry that one more view was registered in
+abbrev pub one_more : List Event → List Event
+one_more events = Applied ∷ Registered ∷ events
+
+-- The same of a balancer whose view is in this registry, which others may be in.
+pub record IsOfTextsIn {D C G R K : Type 0} (gives : R → Member → Member → Type 0) (reads : K → ℕ → K → Type 0) (before : RegistryValue R)
+    (texts : List (Bor (List ℕ))) (clock clock_after : K) (discovery : DiscoverySource D) (served : ServedValue C G)
+    (after : RegistryValue R) (timing : Option UpdateTimings) : Type 0 where
+  pub members : List Member
+  pub times : List ℕ
+  pub looked_up : IsMadeOf texts (Ok members)
+  pub keeps : discovery ≡ Static members
+  pub read : Reads reads clock times clock_after
+  pub timed : timing ≡ update_timing times
+  pub stands : (key_of : Member → Member) (events : List Event) → IsRegistryAfter gives key_of events before
+      → Stands (updated key_of (registered_after events + 1) members [] (one_more events) []) served
+  pub registry : (key_of : Member → Member) (events : List Event) → IsRegistryAfter gives key_of events before
+      → IsRegistryAfter gives key_of (registry_updated key_of (registered_after events + 1) members [] (one_more events)) after
+
+-- Why texts make no balancer in this registry: a lookup is refused, or a selector over no backends; no number is left for a view; what
+-- was found is refused, for the cause that applies, or for memory where none does; or for memory.
+abbrev pub IsTextsRefusalIn : {R : Type 0} → (R → Member → Member → Type 0) → RegistryValue R → List (Bor (List ℕ))
+    → (List Member → Option Refusal) → Refusal → Type 0
+IsTextsRefusalIn gives before texts build r =
+    IsMadeOf texts (Err r)
+    ⊎ ((r ≡ OutOfMemory) ⊎ ((build [] ≡ Some r)
+    ⊎ (((r ≡ NumbersExhausted) × ((key_of : Member → Member) (events : List Event) → IsRegistryAfter gives key_of events before
+    → 2 ^ 64 ≤ registered_after events + 1))
+    ⊎ ((members : List Member) × IsMadeOf texts (Ok members)
+    × ((key_of : Member → Member) (events : List Event) → IsRegistryAfter gives key_of events before
+    → (update_cause (build members) key_of (registered_after events + 1) members (one_more events) [] ≡ Some r)
+    ⊎ ((update_cause (build members) key_of (registered_after events + 1) members (one_more events) [] ≡ None)
+    × (r ≡ OutOfMemory)))))))

@@ -20,3 +20,9 @@ update_timing ms = None
 -- the timing of a slot's last publication
 abbrev pub selector_timings : Timing → SelectorUpdateTimings
 selector_timings t = record { generation = t.generation; queue_duration = t.queue; build_duration = t.build }
+
+-- the timing of a slot's last publication where it is there: none before the first, and none where no such slot is there
+abbrev pub last_timing : Option (Option Timing) → Option SelectorUpdateTimings
+last_timing (Some (Some t)) = Some (selector_timings t)
+last_timing (Some None) = None
+last_timing None = None

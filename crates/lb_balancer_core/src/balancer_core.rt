@@ -1,22 +1,26 @@
 //! A discovery with one selector, which an update builds: what is served is always the newest generation.
-ghost use Rattle.std.specs.Prelude.{◌≡◌, ◌↔◌, ◌≤◌, ◌+◌, ◌^◌, ◌∷◌, [], List, Ok, Err, None, Some, unwrap_or, IfOk};
+ghost use Rattle.std.specs.Prelude.{◌≡◌, ◌↔◌, ◌≤◌, ◌+◌, ◌^◌, ◌∷◌, ◌⊎◌, [], ℕ, List, Ok, Err, None, Some, unwrap_or, IfOk};
 ghost use Rattle.std.specs.Prelude.{IfErr, IsErrOf, IsSome, OnOk, OnErr};
+ghost use Rattle.std.specs.Borrow.{Bor};
+ghost use Rattle.std.specs.Iterator.{Drains, IsFinite};
 ghost use Rattle.lb_select_base.specs.Backends.{Member};
-ghost use Rattle.lb_select_base.specs.Loads.{load_in};
+ghost use Rattle.lb_select_base.specs.Loads.{SetsLoad, load_in};
 ghost use Rattle.lb_select_base.specs.Refusals.{memory_apart};
 ghost use Rattle.lb_health_core.specs.Registry.{IsRegistryAfter};
-ghost use Rattle.lb_health_core.specs.RegistryEvents.{Event, Applied, Registered, registered_after};
+ghost use Rattle.lb_health_core.specs.RegistryEvents.{Event, Applied, Marked, Registered, registered_after};
+ghost use Rattle.lb_health_view.specs.ViewEvents.{generation_after};
 ghost use Rattle.lb_rebuild_core.specs.GroupCalls.{AcceptsBy, IsMakingRefusal};
 ghost use Rattle.lb_balancer_core.specs.Choices.{Chooses};
-ghost use Rattle.lb_balancer_core.specs.Balancer.{After, Drew, Judges, Stands};
+ghost use Rattle.lb_balancer_core.specs.Balancer.{After, Drew, Judges, Stands, view_events};
 ghost use Rattle.lb_balancer_core.specs.BalancerUpdates.{IsUpdated, IsRefusal};
+ghost use Rattle.lb_balancer_core.specs.Texts.{IsOfTextsIn, IsTextsRefusalIn, one_more};
 
 use crate::served::Served;
 use crate::timings::UpdateTimings;
 use lb_health_core::health_check::HealthCheck;
 use lb_health_core::keys::KeyRule;
 use lb_health_core::registry::Registry;
-use lb_health_view::discovery::{DiscoverySource, ServiceDiscovery};
+use lb_health_view::discovery::{DiscoverySource, ServiceDiscovery, Static};
 use lb_health_view::registry::HealthRegistry;
 use lb_select_base::backend::Backend;
 use lb_select_base::moments::MomentSource;
@@ -25,6 +29,7 @@ use lb_select_base::walk::BackendSelection;
 use lb_select_base::words::{CoreWords, WordSource};
 use rand_core::Rng;
 use std::alloc::Global;
+use std::net::Net;
 
 /// A discovery, what is served of its backends, and how long the last accepted update took. Selections and readings are those of
 /// what is served.
@@ -102,6 +107,55 @@ impl<S: BackendSelection, G: Rng + Drop, D: ServiceDiscovery + Drop> LoadBalance
                 timing: None,
             }),
             Err(refusal) => Err(refusal),
+        }
+    }
+
+    /// Returns a balancer of the backends of weight 1 at the addresses of the texts, updated once, with a view of its own in the registry.
+    ///
+    /// Its discovery always finds these. A text that std reads as a socket address has that one; of another text, `host:port`, the network
+    /// looks up the host.
+    ///
+    /// # Errors
+    ///
+    /// Those of `Static::try_from_iter`, `from_backends` and `update`. The registry is then as before, or has a mark for the view.
+    pub fn try_from_iter<
+        'a,
+        R: KeyRule + Drop,
+        T: Net,
+        I: Iterator<Item = &'a str> + Drop,
+        K: MomentSource,
+    >(
+        alloc: Global,
+        registry: &mut Registry<R>,
+        net: &T,
+        texts: I,
+        clock: &mut K,
+        generator: G,
+    ) -> Result<LoadBalancerCore<S, G, D>, Refusal>
+        requires can { I.can_next texts }
+        requires ends { IsFinite (I.remaining texts) }
+        ensures made { IfOk result (λ b. (read : List (Bor (List ℕ))) × Drains I.next_gives texts read
+            × IsOfTextsIn R.gives K.reads registry.old read clock.old clock.new b.discovery b.served registry.new b.timing) }
+        ensures parts { IfOk result (λ b. (b.served.config ≡ S.default_config) × (b.served.words.generator ≡ generator)
+            × ((m : Member) → load_in b.served.words.loads m ≡ 0)) }
+        ensures id { IfOk result (λ b. (key_of : Member → Member) (events : List Event)
+            → IsRegistryAfter R.gives key_of events registry.old → b.served.view.id ≡ registered_after events + 1) }
+        ensures refused { IfErr result (λ r. (read : List (Bor (List ℕ))) × Drains I.next_gives texts read
+            × IsTextsRefusalIn R.gives registry.old read (λ members. S.refusal members S.default_config) r) }
+        ensures err { OnErr result ((key_of : Member → Member) (events : List Event) → IsRegistryAfter R.gives key_of events registry.old
+            → IsRegistryAfter R.gives key_of events registry.new
+            ⊎ IsRegistryAfter R.gives key_of (Marked (registered_after events + 1) ∷ one_more events) registry.new) }
+        ensures one_registry { registry.new.id ≡ registry.old.id }
+    {
+        let found = Static::try_from_iter(alloc, net, texts)?;
+        let discovery = DiscoverySource::Static(found);
+        let mut balancer = LoadBalancerCore::from_backends(alloc, registry, discovery, generator)?;
+        match balancer.update(alloc, registry, clock) {
+            Ok(()) => Ok(balancer),
+            Err(refusal) => {
+                registry.remove_view(balancer.served.id());
+                Err(refusal)
+            }
         }
     }
 
@@ -183,6 +237,35 @@ impl<S: BackendSelection, G: Rng + Drop, D: ServiceDiscovery + Drop> LoadBalance
             .select_with(alloc, registry, key, max_iterations, accept)
     }
 
+    /// Sets the load of a backend's identity, which outlives each update.
+    ///
+    /// Refused for memory alone, and then nothing is set.
+    pub fn set_load(&mut self, alloc: Global, backend: &Backend, load: u64) -> Result<(), Refusal>
+        ensures set { IfOk result (λ _. SetsLoad (load_in self.old.served.words.loads) backend.now load
+            (load_in self.new.served.words.loads)) }
+        ensures refused { IfErr result (λ r. (r ≡ Refusal.OutOfMemory)
+            × ((m : Member) → load_in self.new.served.words.loads m ≡ load_in self.old.served.words.loads m)) }
+        ensures stands { After self.old.served (λ e. Stands e self.new.served) }
+        ensures kept { self.new ≡ record self.old {
+          served = record self.old.served {
+            words = record self.old.served.words { loads = self.new.served.words.loads };
+          };
+        } }
+    {
+        self.served.set_load(alloc, backend, load)
+    }
+
+    /// Marks the view for removal from the registry: its next call that applies marks removes it.
+    ///
+    /// Selections go on in what is served; another membership is refused `NoSuch`. It takes no memory.
+    pub fn leave<R: KeyRule + Drop>(&self, registry: &mut Registry<R>)
+        ensures registry { (key_of : Member → Member) (events : List Event) → IsRegistryAfter R.gives key_of events registry.old
+            → IsRegistryAfter R.gives key_of (Marked self.now.served.view.id ∷ events) registry.new }
+        ensures one_registry { registry.new.id ≡ registry.old.id }
+    {
+        registry.remove_view(self.served.id());
+    }
+
     /// Sets the check of the borrowed registry.
     ///
     /// Refused `HealthCheckSet` where one is set, which stays.
@@ -195,6 +278,13 @@ impl<S: BackendSelection, G: Rng + Drop, D: ServiceDiscovery + Drop> LoadBalance
         ensures refused { IsSome registry.old.check → (result ≡ Err Refusal.HealthCheckSet) × (registry.new ≡ registry.old) }
     {
         registry.set_health_check(check)
+    }
+
+    /// Returns the newest generation, which is the served one; 0 before the first membership.
+    pub fn backend_generation(&self) -> u64
+        ensures { After self.now.served (λ e. result ≡ generation_after (view_events e)) }
+    {
+        self.served.generation()
     }
 
     /// Returns how long the last accepted update took; `None` before the first.

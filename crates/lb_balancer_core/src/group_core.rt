@@ -1,18 +1,19 @@
 //! A discovery with a group of slots, each of which serves a selector of its own that is rebuilt apart from an update.
-ghost use Rattle.std.specs.Prelude.{◌≡◌, ◌↔◌, ◌<◌, ◌≤◌, ◌+◌, ◌^◌, ◌∷◌, [], ℕ, List, length, map, Ok, Err, Some, None, option_map};
+ghost use Rattle.std.specs.Prelude.{◌≡◌, ◌↔◌, ◌<◌, ◌≤◌, ◌+◌, ◌^◌, ◌∷◌, [], ℕ, List, length, map, Ok, Err, Some, None};
 ghost use Rattle.std.specs.Prelude.{IfOk, IfErr, IsErrOf, IsSome, IsTrue, OnOk, OnErr};
 ghost use Rattle.lb_select_base.specs.Backends.{Member};
-ghost use Rattle.lb_select_base.specs.Loads.{load_in};
+ghost use Rattle.lb_select_base.specs.Loads.{SetsLoad, load_in};
 ghost use Rattle.lb_select_base.specs.Refusals.{least, memory_apart};
 ghost use Rattle.lb_rebuild_core.specs.SlotsCalls.{SelectsIn, at_slot};
 ghost use Rattle.lb_rebuild_core.specs.SlotsHistory.{newest, past_of, served, coalesced, failed, timing as timing_after};
+ghost use Rattle.lb_rebuild_core.specs.SlotsHistory.{Cancelled, is_cancelled};
 ghost use Rattle.lb_health_core.specs.Registry.{IsRegistryAfter};
-ghost use Rattle.lb_health_core.specs.RegistryEvents.{Event, Applied, Registered, registered_after};
+ghost use Rattle.lb_health_core.specs.RegistryEvents.{Event, Applied, Marked, Registered, registered_after};
 ghost use Rattle.lb_rebuild_core.specs.GroupCalls.{AcceptsBy, IsMakingRefusal, Judges, after_select, served_at};
-ghost use Rattle.lb_rebuild_core.specs.GroupHistory.{slot_events};
-ghost use Rattle.lb_rebuild_core.specs.GroupStates.{After, SameSite, Stands};
+ghost use Rattle.lb_rebuild_core.specs.GroupHistory.{in_group, slot_events};
+ghost use Rattle.lb_rebuild_core.specs.GroupStates.{After, Becomes, SameSite, Stands};
 ghost use Rattle.lb_balancer_core.specs.GroupUpdates.{IsGroupUpdated, IsGroupRefusal};
-ghost use Rattle.lb_balancer_core.specs.Timings.{selector_timings};
+ghost use Rattle.lb_balancer_core.specs.Timings.{last_timing};
 
 use crate::lent::LentGroupBackends;
 use crate::timings::{SelectorUpdateTimings, UpdateTimings};
@@ -32,12 +33,13 @@ use lb_select_base::refusal::Refusal;
 use lb_select_base::walk::BackendSelection;
 use std::alloc::Global;
 
-/// A discovery, the group that its backends reach, and how long the last accepted update took. The group's own calls build,
-/// publish and destroy the selectors of its slots.
+/// A discovery, the group that its backends reach, the loads by which its slots select, and how long the last accepted update took. The
+/// group's own calls build, publish and destroy the selectors of its slots.
 #[derive(Drop)]
 pub struct LoadBalancerGroupCore<S: BackendSelection, D> {
     pub discovery: DiscoverySource<D>,
     pub group: GroupCore<S>,
+    pub loads: Loads,
     pub timing: Option<UpdateTimings>,
 }
 
@@ -61,7 +63,7 @@ impl<S: BackendSelection, D: ServiceDiscovery + Drop> LoadBalancerGroupCore<S, D
         ensures gate { IfOk result (λ b. b.group.group.gate ≡ gate.now.id) }
         ensures id { IfOk result (λ b. (key_of : Member → Member) (events : List Event)
             → IsRegistryAfter R.gives key_of events registry.old → b.group.view.id ≡ registered_after events + 1) }
-        ensures parts { IfOk result (λ b. (b.discovery ≡ discovery) × (b.timing ≡ None)) }
+        ensures parts { IfOk result (λ b. (b.discovery ≡ discovery) × (b.timing ≡ None) × ((m : Member) → load_in b.loads m ≡ 0)) }
         ensures registry { OnOk result ((key_of : Member → Member) (events : List Event)
             → IsRegistryAfter R.gives key_of events registry.old
             → IsRegistryAfter R.gives key_of (Applied ∷ Registered ∷ events) registry.new) }
@@ -76,10 +78,26 @@ impl<S: BackendSelection, D: ServiceDiscovery + Drop> LoadBalancerGroupCore<S, D
             Ok(group) => Ok(LoadBalancerGroupCore {
                 discovery,
                 group,
+                loads: Loads::new(),
                 timing: None,
             }),
             Err(refusal) => Err(refusal),
         }
+    }
+
+    /// Gives the group this gate for its rebuilds, which other groups may share, before its first update.
+    ///
+    /// It takes no memory. A group is at generation 0 (`backend_generation`) until it is updated.
+    pub fn with_rebuild_gate(&mut self, gate: &GateCore)
+        requires { After self.old.group (λ made e. newest (slot_events e) ≡ 0) }
+        ensures stands { After self.old.group (λ made e. Stands (record made { gate = gate.now.id }) e self.new.group) }
+        ensures kept { self.new ≡ record self.old {
+          group = record self.old.group {
+            group = record self.old.group.group { gate = gate.now.id };
+          };
+        } }
+    {
+        self.group.with_rebuild_gate(gate);
     }
 
     /// Discovers, and schedules what was discovered in the group.
@@ -106,6 +124,7 @@ impl<S: BackendSelection, D: ServiceDiscovery + Drop> LoadBalancerGroupCore<S, D
         ensures timing_err { OnErr result (self.new.timing ≡ self.old.timing) }
         ensures refused { IfErr result (IsGroupRefusal D.finds R.gives self.old.discovery self.old.group registry.old) }
         ensures discovery { self.new.discovery ≡ self.old.discovery }
+        ensures loads { self.new.loads ≡ self.old.loads }
         ensures site { SameSite self.old.group self.new.group }
         ensures one_registry { registry.new.id ≡ registry.old.id }
     {
@@ -131,19 +150,25 @@ impl<S: BackendSelection, D: ServiceDiscovery + Drop> LoadBalancerGroupCore<S, D
         key: &[u8],
         max_iterations: usize,
         random: &[u64],
-        loads: &Loads,
     ) -> Selection
         requires registry { registry.now.id ≡ self.old.group.registry }
         ensures answers { (key_of : Member → Member) (events : List Event) → IsRegistryAfter R.gives key_of events registry.now
             → After self.old.group (λ made e. SelectsIn S.may_draw_random S.walks
-            (Judges key_of events made e (served_at slot e)) (load_in loads.now)
+            (Judges key_of events made e (served_at slot e)) (load_in self.old.loads)
             made (slot_events e) slot key.now max_iterations random.now result) }
         ensures stands { After self.old.group (λ made e. Stands made (after_select made slot result e) self.new.group) }
         ensures kept { self.new ≡ record self.old { group = self.new.group } }
         ensures site { SameSite self.old.group self.new.group }
     {
-        self.group
-            .select(alloc, registry, slot, key, max_iterations, random, loads)
+        self.group.select(
+            alloc,
+            registry,
+            slot,
+            key,
+            max_iterations,
+            random,
+            &self.loads,
+        )
     }
 
     /// Selects the first backend that `accept` takes, as `select` does the first ready one.
@@ -157,14 +182,13 @@ impl<S: BackendSelection, D: ServiceDiscovery + Drop> LoadBalancerGroupCore<S, D
         key: &[u8],
         max_iterations: usize,
         random: &[u64],
-        loads: &Loads,
         accept: &F,
     ) -> Selection
         requires accept { F.IsAlwaysCallable accept.now }
         requires registry { registry.now.id ≡ self.old.group.registry }
         ensures answers { (key_of : Member → Member) (events : List Event) → IsRegistryAfter R.gives key_of events registry.now
             → After self.old.group (λ made e. SelectsIn S.may_draw_random S.walks
-            (AcceptsBy F.Fn accept.now (Judges key_of events made e (served_at slot e))) (load_in loads.now)
+            (AcceptsBy F.Fn accept.now (Judges key_of events made e (served_at slot e))) (load_in self.old.loads)
             made (slot_events e) slot key.now max_iterations random.now result) }
         ensures stands { After self.old.group (λ made e. Stands made (after_select made slot result e) self.new.group) }
         ensures kept { self.new ≡ record self.old { group = self.new.group } }
@@ -177,9 +201,41 @@ impl<S: BackendSelection, D: ServiceDiscovery + Drop> LoadBalancerGroupCore<S, D
             key,
             max_iterations,
             random,
-            loads,
+            &self.loads,
             accept,
         )
+    }
+
+    /// Sets the load of a backend's identity, for all slots whose selectors go by loads.
+    ///
+    /// Refused for memory alone, and then nothing is set.
+    pub fn set_load(&mut self, alloc: Global, backend: &Backend, load: u64) -> Result<(), Refusal>
+        ensures set { IfOk result (λ _. SetsLoad (load_in self.old.loads) backend.now load (load_in self.new.loads)) }
+        ensures refused { IfErr result (λ r. (r ≡ Refusal.OutOfMemory)
+            × ((m : Member) → load_in self.new.loads m ≡ load_in self.old.loads m)) }
+        ensures kept { self.new ≡ record self.old { loads = self.new.loads } }
+    {
+        self.loads.set(alloc, backend, load)
+    }
+
+    /// Stops the rebuilds for good, and marks the view for removal, as `GroupCore::cancel` does; selections and readings go on.
+    pub fn cancel<R: KeyRule + Drop>(&mut self, registry: &mut Registry<R>)
+        requires { registry.old.id ≡ self.old.group.registry }
+        ensures stands { Becomes self.old.group (in_group (Cancelled ∷ [])) self.new.group }
+        ensures kept { self.new ≡ record self.old { group = self.new.group } }
+        ensures site { SameSite self.old.group self.new.group }
+        ensures registry { (key_of : Member → Member) (events : List Event) → IsRegistryAfter R.gives key_of events registry.old
+            → IsRegistryAfter R.gives key_of (Marked self.old.group.view.id ∷ events) registry.new }
+        ensures one_registry { registry.new.id ≡ registry.old.id }
+    {
+        self.group.cancel(registry);
+    }
+
+    /// Returns whether the group is cancelled.
+    pub fn is_cancelled(&self) -> bool
+        ensures { After self.now.group (λ made e. result ≡ is_cancelled (slot_events e)) }
+    {
+        self.group.is_cancelled()
     }
 
     /// Returns how many slots there are.
@@ -223,15 +279,14 @@ impl<S: BackendSelection, D: ServiceDiscovery + Drop> LoadBalancerGroupCore<S, D
         true
     }
 
-    /// Returns the timing of a slot's last publication: `None` where no such slot is there, and none in it before the first.
-    pub fn selector_last_update_timing(&self, slot: usize) -> Option<Option<SelectorUpdateTimings>>
+    /// Returns the timing of a slot's last publication, or `None` before the first and where no such slot is there.
+    pub fn selector_last_update_timing(&self, slot: usize) -> Option<SelectorUpdateTimings>
         ensures { After self.now.group (λ made e. result
-            ≡ at_slot made slot (option_map selector_timings (timing_after (past_of slot (slot_events e))))) }
+            ≡ last_timing (at_slot made slot (timing_after (past_of slot (slot_events e))))) }
     {
         match self.group.timing(slot) {
-            Some(Some(timing)) => Some(Some(timing.into())),
-            Some(None) => Some(None),
-            None => None,
+            Some(Some(timing)) => Some(timing.into()),
+            Some(None) | None => None,
         }
     }
 

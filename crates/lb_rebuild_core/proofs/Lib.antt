@@ -4,6 +4,7 @@ pub mod Counting
 pub mod Delays
 pub mod Ends
 pub mod GateStores
+pub mod Gates
 pub mod GroupSlots
 pub mod Handing
 pub mod Histories

@@ -123,6 +123,15 @@ impl<S: BackendSelection> GroupCore<S> {
         })
     }
 
+    /// Gives the group this gate for its extra selectors, before its first membership. It takes no memory.
+    pub fn with_rebuild_gate(&mut self, gate: &GateCore)
+        requires { After self.old (λ made e. newest_after (slot_events e) ≡ 0) }
+        ensures stands { After self.old (λ made e. Stands (record made { gate = gate.now.id }) e self.new) }
+        ensures same { self.new ≡ record self.old { group = record self.old.group { gate = gate.now.id } } }
+    {
+        self.group.with_rebuild_gate(gate);
+    }
+
     /// Shows that two groups are not the same one. It takes no memory and changes neither.
     pub fn apart<T: BackendSelection>(a: &mut GroupCore<S>, b: &mut GroupCore<T>)
         ensures apart { a.old.group.id ≢ b.old.group.id }

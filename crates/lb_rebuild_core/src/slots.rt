@@ -115,6 +115,15 @@ impl<S: BackendSelection> Slots<S> {
         })
     }
 
+    /// Gives the group this gate for its extra selectors, before its first membership. It takes no memory.
+    pub fn with_rebuild_gate(&mut self, gate: &GateCore)
+        requires { After self.old (λ made h. newest_after h ≡ 0) }
+        ensures stands { After self.old (λ made h. StandsFor (record made { gate = gate.now.id }) h self.new) }
+        ensures same { self.new ≡ record self.old { gate = gate.now.id } }
+    {
+        self.gate = Snapshot::of(gate);
+    }
+
     /// Shows that the gate's permit is out where anything stands in a slot beside what it serves: a flight, a lost flight, or a
     /// selector that is retired or taken out. It takes no memory and changes nothing.
     pub fn extra_is_out(&mut self, slot: usize, gate: &mut GateCore)

@@ -17,7 +17,6 @@ use lb_rebuild_core::gate::GateCore;
 use lb_rebuild_core::job::FailedBuild;
 use lb_select::selection::FNVHash;
 use lb_select_base::backend::Backend;
-use lb_select_base::loads::Loads;
 use lb_select_base::moments::MomentSource;
 use lb_select_base::refusal::Refusal;
 use rand_pcg::Pcg64;
@@ -236,12 +235,11 @@ fn seen_of_group(alloc: Global, group: &mut Group<'_>, registry: &RegistryCore) 
     requires { registry.now.id ≡ group.old.group.registry }
     ensures { SameSite group.old.group group.new.group }
 {
-    let loads = Loads::new();
-    let first = group.select(alloc, registry, 0, b"k", 1, &[], &loads);
+    let first = group.select(alloc, registry, 0, b"k", 1, &[]);
     let selected = match first.answer {
         Ok(selected) => selected,
         Err(_) => {
-            let second = group.select(alloc, registry, 0, b"k", 1, &[], &loads);
+            let second = group.select(alloc, registry, 0, b"k", 1, &[]);
             second.answer.ok()?
         }
     };
