@@ -6,7 +6,6 @@ use Rattle.lb_world.proofs.Absent.{config-made}
 use Rattle.lb_world.proofs.Causes.{number-left}
 use Rattle.lb_world.proofs.Makings.{entered-there, gate-unmade, get_last, still-there}
 use Rattle.lb_world.proofs.Refusing.{alike-sym, groups-alike}
-use Rattle.lb_world.proofs.Together.{group-of}
 use Rattle.lb_world.proofs.Runs.{reading}
 use Rattle.lb_world.proofs.Unrefused.{run-unrefused, told-unrefused}
 use Rattle.lb_world.specs.Answers.{enter_answer, leave_answer}
