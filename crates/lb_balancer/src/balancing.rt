@@ -1,6 +1,7 @@
 //! A balancer that threads share: an update discovers and builds under a lock of its own, and then what is served is exchanged. Locks are
 //! taken in the order update, served, registry, shown; the last is held for a copy of a pointer. The lock of the loads is held for one
-//! load, while no other is taken. A selection takes the first four only where its lane doesn't have what is served (`kept`).
+//! load, while no other but that of updates is. A selection takes the first four only where its lane doesn't have what is served (`kept`),
+//! and that of the loads only for a load without a word.
 ghost use Rattle.std.specs.Prelude.{◌≡◌, ◌⊎◌, ◌∷◌, [], ℕ, List, IfOk, IfErr, OnOk, OnErr, Ok, Err};
 ghost use Rattle.std.specs.Prelude.{All, Some, None, unwrap_or, false, MatchOption};
 ghost use Rattle.std.specs.Arc.{arc_value};
@@ -26,13 +27,13 @@ use lb_health_core::registry::Registry;
 use lb_health_view::discovery::ServiceDiscovery;
 use lb_health_view::view::{Settings, ViewCore};
 use lb_select_base::backend::Backend;
-use lb_select_base::loads::Loads;
 use lb_select_base::moments::MomentSource;
 use lb_select_base::refusal::Refusal;
 use lb_select_base::walk::BackendSelection;
 use lb_threads_core::backends::{Backends, BackendsParts};
 use lb_threads_core::generators::LaneGenerators;
 use lb_threads_core::lanes::Lanes;
+use lb_threads_core::loads::SharedLoads;
 use lb_threads_core::lock::KeyedLock;
 use lb_threads_core::owner::ViewOwner;
 use lb_threads_core::registry::{HealthRegistry, put_registry, take_registry};
@@ -62,7 +63,7 @@ struct Places<S: BackendSelection, D> {
     shown: ShownLock<S, D>,
     lanes: Lanes<KeptShown<S, D>>,
     generators: LaneGenerators,
-    loads: Arc<Mutex<Loads>>,
+    loads: Arc<SharedLoads>,
 }
 
 /// A balancer with one selector. Contracts see what never changes: its discovery, and what its selectors are built with. Other threads may
@@ -79,7 +80,7 @@ pub struct Balancing<S: BackendSelection, D, R: KeyRule + Drop, C> {
     // The random words of each lane.
     pub(crate) generators: LaneGenerators,
     timing: Mutex<Option<UpdateTimings>>,
-    loads: Arc<Mutex<Loads>>,
+    loads: Arc<SharedLoads>,
     // Counts what may have changed what is ready, but for the registry's own changes.
     changes: AtomicU64,
     seeds: AtomicU64,
@@ -311,7 +312,10 @@ impl<
     {
         let seed = self.seeds.fetch_add(1, SeqCst);
         match built_of(alloc, members, self.origin.config(), seed) {
-            Ok(built) => Ok(built),
+            Ok(mut built) => {
+                built.loads = self.loads.words(rt, alloc, seed, members);
+                Ok(built)
+            }
             Err(Refusal::OutOfMemory) => {
                 let registries: &HealthRegistry<R, C> = &*self.registry;
                 let held = self.serving.take(rt);
@@ -487,7 +491,7 @@ impl<
         ensures { IfErr result (λ e. e ≡ Refusal.OutOfMemory) }
     {
         let _key = &self.origin;
-        self.loads.lock(rt).set(alloc, backend, load)
+        self.loads.set(rt, alloc, backend, load)
     }
 
     /// Marks the view for removal from the registry, and releases its cells.
@@ -655,7 +659,7 @@ fn shown_of<S: BackendSelection, D, R: KeyRule + Drop>(
     alloc: Global,
     serving: &Serving<S>,
     registry: &Registry<R>,
-    loads: &Arc<Mutex<Loads>>,
+    loads: &Arc<SharedLoads>,
     version: Version,
     origin: &Origin<S, D>,
 ) -> Result<Arc<Shown<S>>, Refusal>
@@ -687,7 +691,9 @@ fn places_over<S: BackendSelection, D, R: KeyRule + Drop, C: HealthCheck + Drop,
         balancer: 0,
         registry: registry.changes(),
     };
-    let loads = Arc::new(alloc, Mutex::new(Loads::new()))?;
+    let loads = Arc::new(alloc, SharedLoads::new(alloc))?;
+    let mut serving = serving;
+    serving.take_loads(rt, alloc, &*loads, 0);
     let lanes = Lanes::new(alloc, LANES, origin)?;
     let generators = LaneGenerators::new(alloc, LANES, Pcg64::new(0, 0))?;
     let cells = take_registry(registry, rt);

@@ -39,7 +39,7 @@ impl<
     R: KeyRule + Drop,
     C: HealthCheck + Drop,
 > Balancing<S, D, R, C> {
-    // Selects in what the hint's lane has, where that is what is served now. It takes no lock but those of random words and of loads.
+    // Selects in what the hint's lane has, where that is what is served now. It takes no lock but that of random words.
     pub(crate) fn select_in_lane<W: Wait, F: Fn(&Backend, bool) -> bool>(
         &self,
         rt: &W,

@@ -18,15 +18,24 @@ use lb_threads_core::generators::LaneGenerator;
 use std::alloc::Global;
 use std::sync::{Arc, Wait};
 
-/// A balancer with what it served last, and with random words of its own. While that is still served a selection takes no lock but that of
-/// loads, where the selector goes by these, and writes nothing that another thread reads but the tickets it draws. What is served no
-/// longer is kept until the next selection.
-#[derive(Drop)]
+/// A balancer with what it served last, and with random words of its own. While that is still served a selection takes no lock that another
+/// thread takes, and writes nothing that another thread reads but the tickets it draws. What is served no longer is kept until the next
+/// selection.
 pub struct BalancerReader<'b, S: BackendSelection, D, R: KeyRule + Drop, C> {
     balancing: &'b Balancing<S, D, R, C>,
     seen: Arc<Shown<S>>,
     generator: LaneGenerator,
     ghost own: { IsShownBy balancing.now (arc_value seen) },
+}
+
+impl<'b, S: BackendSelection, D, R: KeyRule + Drop, C> Drop for BalancerReader<'b, S, D, R, C> {
+    fn drop(self) {
+        let BalancerReader {
+            balancing: _,
+            seen: _,
+            generator: _,
+        } = self;
+    }
 }
 
 impl<

@@ -20,22 +20,42 @@ use lb_health_core::keys::KeyRule;
 use lb_health_core::registry::Registry;
 use lb_health_view::view::{Settings, ViewCore};
 use lb_select_base::backend::Backend;
-use lb_select_base::loads::Loads;
 use lb_select_base::refusal::Refusal;
 use lb_select_base::walk::BackendSelection;
 use lb_select_base::words::SharedWords;
+use lb_threads_core::loads::{LoadWords, SharedLoads};
 use rand_pcg::Pcg64;
 use std::alloc::Global;
 use std::collections::BTreeSet;
 use std::marker::Model;
 use std::mem;
-use std::sync::{Arc, Mutex};
+use std::sync::{Arc, Wait};
 
-/// A selector with a source of words of its own.
-#[derive(Drop)]
+/// A selector with a source of words of its own, and with words for the loads of its members, where memory wasn't refused.
 pub struct BuiltSelector<S: BackendSelection> {
     pub selector: Arc<S>,
     pub words: Arc<SharedWords>,
+    pub loads: Option<Arc<LoadWords>>,
+}
+
+impl<S: BackendSelection> Drop for BuiltSelector<S> {
+    fn drop(self) {
+        let BuiltSelector {
+            selector: _,
+            words: _,
+            loads: _,
+        } = self;
+    }
+}
+
+impl<S: BackendSelection> BuiltSelector<S> {
+    // The words for the loads, once more.
+    fn loads_again(&self) -> Option<Arc<LoadWords>> {
+        match &self.loads {
+            Some(words) => Arc::try_clone(words).ok(),
+            None => None,
+        }
+    }
 }
 
 /// A view, and the selector of its newest membership. Contracts see the view by the history of its events; each view has some history.
@@ -90,6 +110,13 @@ impl<S: BackendSelection> Serving<S> {
     {
         // For the prover alone: this shows it the view's invariant, and does nothing at run time.
         let _view = &self.view;
+    }
+
+    /// Has words of this number for the loads of the newest membership.
+    pub fn take_loads<W: Wait>(&mut self, rt: &W, alloc: Global, loads: &SharedLoads, number: u64)
+        ensures { self.new ≡ self.old }
+    {
+        self.built.loads = loads.words(rt, alloc, number, self.view.members());
     }
 
     /// Returns the number of the view in its registry.
@@ -241,7 +268,7 @@ impl<S: BackendSelection> Serving<S> {
         &self,
         alloc: Global,
         registry: &Registry<R>,
-        loads: &Arc<Mutex<Loads>>,
+        loads: &Arc<SharedLoads>,
         version: Version,
     ) -> Result<Shown<S>, Refusal>
         ensures shows { IfOk result (λ s. ShowsView self.now.view s) }
@@ -255,6 +282,7 @@ impl<S: BackendSelection> Serving<S> {
             selector: Arc::try_clone(&self.built.selector)?,
             words: Arc::try_clone(&self.built.words)?,
             loads: Arc::try_clone(loads)?,
+            load_words: self.built.loads_again(),
             unready: unready_of(&self.view, registry)?,
             version,
         })
@@ -280,7 +308,11 @@ pub(crate) fn built_of<S: BackendSelection>(
     };
     let selector = Arc::new(alloc, selector)?;
     let words = Arc::new(alloc, SharedWords::new(Pcg64::new(u128::from(seed), 1)))?;
-    Ok(BuiltSelector { selector, words })
+    Ok(BuiltSelector {
+        selector,
+        words,
+        loads: None,
+    })
 }
 
 // A copy of a view's newest membership.

@@ -8,16 +8,16 @@ ghost use Rattle.lb_balancer.specs.Shown.{SelectsOf, is_ready, is_up};
 
 use crate::words::LoadedWords;
 use lb_select_base::backend::Backend;
-use lb_select_base::loads::Loads;
 use lb_select_base::refusal::Refusal;
 use lb_select_base::select::select;
 use lb_select_base::walk::BackendSelection;
 use lb_select_base::words::SharedWords;
 use lb_threads_core::generators::LaneGenerator;
+use lb_threads_core::loads::{LoadWords, SharedLoads};
 use std::alloc::Global;
 use std::collections::BTreeSet;
 use std::marker::Model;
-use std::sync::{Arc, Mutex, Wait};
+use std::sync::{Arc, Wait};
 
 /// How often balancer and registry had changed.
 #[derive(Clone, Copy, PartialEq, Eq)]
@@ -34,7 +34,8 @@ pub struct Shown<S: BackendSelection> {
     pub(crate) members: Arc<BTreeSet<Backend>>,
     pub(crate) selector: Arc<S>,
     pub(crate) words: Arc<SharedWords>,
-    pub(crate) loads: Arc<Mutex<Loads>>,
+    pub(crate) loads: Arc<SharedLoads>,
+    pub(crate) load_words: Option<Arc<LoadWords>>,
     pub(crate) unready: BTreeSet<Backend>,
     pub(crate) version: Version,
 }
@@ -47,6 +48,7 @@ impl<S: BackendSelection> Drop for Shown<S> {
             selector: _,
             words: _,
             loads: _,
+            load_words: _,
             unready: _,
             version: _,
         } = self;
@@ -94,6 +96,15 @@ impl<S: BackendSelection> Shown<S> {
         ensures { result ≡ is_ready self.now backend.now }
     {
         self.members.contains(backend) && !self.unready.contains(backend)
+    }
+
+    // The words for the loads of the members.
+    #[inline]
+    fn load_words(&self) -> Option<&LoadWords> {
+        match &self.load_words {
+            Some(words) => Some(&**words),
+            None => None,
+        }
     }
 
     /// Returns how often balancer and registry had changed.
@@ -144,6 +155,7 @@ impl<S: BackendSelection> Shown<S> {
             words: shared.lend(rt),
             generator,
             loads: &*self.loads,
+            load_words: self.load_words(),
             rt,
         };
         select(

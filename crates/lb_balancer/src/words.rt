@@ -1,9 +1,9 @@
 //! The words of one walk in a balancer that threads share: those of its selector, with the loads that are set at the balancer.
 use lb_select_base::backend::Backend;
-use lb_select_base::loads::Loads;
 use lb_select_base::words::{LentWords, WordSource};
 use lb_threads_core::generators::LaneGenerator;
-use std::sync::{Mutex, Wait};
+use lb_threads_core::loads::{LoadWords, SharedLoads};
+use std::sync::Wait;
 
 // The words of a selector with the loads of its balancer, borrowed for one walk. Other threads draw and set them too.
 #[derive(Drop)]
@@ -11,7 +11,9 @@ pub(crate) struct LoadedWords<'a, R> {
     pub(crate) words: LentWords<'a, R>,
     // Where random words are from, if not from the selector's words.
     pub(crate) generator: Option<&'a LaneGenerator>,
-    pub(crate) loads: &'a Mutex<Loads>,
+    pub(crate) loads: &'a SharedLoads,
+    // The words for the loads of the members.
+    pub(crate) load_words: Option<&'a LoadWords>,
     pub(crate) rt: &'a R,
 }
 
@@ -31,8 +33,7 @@ impl<'a, R: Wait> WordSource for LoadedWords<'a, R> {
         }
     }
 
-    // Held for this one load: a walk that reads none doesn't take the lock.
     fn load(&self, backend: &Backend) -> u64 {
-        self.loads.lock(self.rt).get(backend)
+        self.loads.get(self.rt, self.load_words, backend)
     }
 }

@@ -45,7 +45,7 @@ pub struct LaneGenerators {
 }
 
 impl LaneGenerators {
-    /// Returns the generators of so many lanes, which the first words of this one seed.
+    /// Returns the generators of so many lanes, best a power of two, which the first words of this one seed.
     ///
     /// Refused where memory is refused.
     pub fn new(
@@ -64,7 +64,7 @@ impl LaneGenerators {
         })
     }
 
-    /// Returns the generator of a lane by its number, modulo the lanes that there are.
+    /// Returns the generator of a lane by its number, modulo the lanes that there are, if these are a power of two.
     #[inline]
     pub fn of_lane(&self, lane: u64) -> &LaneGenerator {
         let place = lane as usize & self.lanes.len().wrapping_sub(1);

@@ -10,13 +10,14 @@ ghost use Rattle.lb_threads_group.specs.Shared.{SharedValue};
 
 use crate::group::SharedGroup;
 use crate::kept::Site;
-use crate::marks::{Marks, marks_of, place_of};
 use lb_health_core::health_check::HealthCheck;
 use lb_health_core::keys::KeyRule;
 use lb_rebuild_core::retired::Reader;
 use lb_select_base::backend::Backend;
 use lb_select_base::walk::BackendSelection;
+use lb_threads_core::loads::LoadWords;
 use lb_threads_core::lock::KeyedLock;
+use lb_threads_core::marks::{Marks, marks_of, place_of};
 use lb_threads_core::registry::{HealthRegistry, put_registry, take_registry};
 use lb_threads_core::rule::LockRule;
 use lb_threads_core::word_rule::WordRule;
@@ -65,13 +66,14 @@ struct Tickets {
     after: [u64; 15],
 }
 
-/// Which backends are ready for the readers of a generation, and how many tickets they drew. Contracts see of which group, registry and
-/// generation.
+/// Which backends are ready for the readers of a generation, their loads, and how many tickets they drew. Contracts see of which group,
+/// registry and generation.
 #[derive(Drop)]
 pub struct Found<S: BackendSelection, R: KeyRule + Drop, C> {
     generation: u64,
     marks: Marks,
     words: KeyedWords<Subject<S, R, C>, OfFound>,
+    loads: Option<Arc<LoadWords>>,
     tickets: Tickets,
 }
 
@@ -149,12 +151,13 @@ impl<S: BackendSelection, R: KeyRule + Drop, C> SlotWords<S, R, C> {
 }
 
 impl<S: BackendSelection, R: KeyRule + Drop, C> Found<S, R, C> {
-    // Words for readers of a generation with these backends, which say nothing yet.
+    // Words for readers of a generation with these backends and loads, which say nothing yet of what is ready.
     fn new(
         alloc: Global,
         site: &Site<S, R, C>,
         generation: u64,
         backends: &BTreeSet<Backend>,
+        loads: Option<Arc<LoadWords>>,
     ) -> Result<Found<S, R, C>, AllocError>
         ensures { IfOk result (λ f. f.site ≡ site.now) }
     {
@@ -170,6 +173,7 @@ impl<S: BackendSelection, R: KeyRule + Drop, C> Found<S, R, C> {
             generation,
             marks,
             words,
+            loads,
             tickets: Tickets {
                 before: [0; 15],
                 drawn: AtomicU64::new(0),
@@ -182,6 +186,15 @@ impl<S: BackendSelection, R: KeyRule + Drop, C> Found<S, R, C> {
     pub(crate) fn ticket(&self) -> u64 {
         let tickets = &self.tickets;
         tickets.drawn.fetch_add(1, SeqCst)
+    }
+
+    // The loads of its backends.
+    #[inline]
+    pub(crate) fn loads(&self) -> Option<&LoadWords> {
+        match &self.loads {
+            Some(loads) => Some(&**loads),
+            None => None,
+        }
     }
 
     // The generation of its readers.
@@ -292,7 +305,8 @@ impl<S: BackendSelection, R: KeyRule + Drop, C: HealthCheck + Drop> SharedGroup<
         let Some(lock) = self.words_lock(slot) else {
             return;
         };
-        let Some(found) = self.new_found(generation, &backends) else {
+        let loads = self.loads.words(rt, self.alloc, generation, &backends);
+        let Some(found) = self.new_found(generation, &backends, loads) else {
             return;
         };
         let _board = &self.board;
@@ -336,11 +350,12 @@ impl<S: BackendSelection, R: KeyRule + Drop, C: HealthCheck + Drop> SharedGroup<
         &self,
         generation: u64,
         backends: &BTreeSet<Backend>,
+        loads: Option<Arc<LoadWords>>,
     ) -> Option<Arc<Found<S, R, C>>>
         ensures { IsFoundOf self.now result }
     {
         let _site = &self.site;
-        let found = Found::new(self.alloc, &self.site, generation, backends).ok()?;
+        let found = Found::new(self.alloc, &self.site, generation, backends, loads).ok()?;
         Arc::new(self.alloc, found).ok()
     }
 

@@ -16,7 +16,6 @@ use lb_rebuild::board::Board;
 use lb_rebuild::watched::Watched;
 use lb_rebuild_core::group::GroupCore;
 use lb_select_base::backend::Backend;
-use lb_select_base::loads::Loads;
 use lb_select_base::moments::MomentSource;
 use lb_select_base::refusal::Refusal;
 use lb_select_base::walk::BackendSelection;
@@ -24,6 +23,7 @@ use lb_threads_core::gate::SelectorRebuildGate;
 use lb_threads_core::generators::LaneGenerators;
 use lb_threads_core::keyed::NoRule;
 use lb_threads_core::lanes::Lanes;
+use lb_threads_core::loads::SharedLoads;
 use lb_threads_core::lock::KeyedLock;
 use lb_threads_core::registry::{HealthRegistry, put_registry, take_registry};
 use lb_threads_core::rule::LockRule;
@@ -65,7 +65,7 @@ pub struct SharedGroup<S: BackendSelection, R: KeyRule + Drop = Rule<NoRule>, C 
     pub(crate) board: Arc<Board>,
     pub(crate) registry: Arc<HealthRegistry<R, C>>,
     pub(crate) gate: Arc<SelectorRebuildGate>,
-    pub(crate) loads: Mutex<Loads>,
+    pub(crate) loads: SharedLoads,
     // Held by an update from its discovery to its membership.
     updates: Mutex<()>,
     lines: Vec<SlotCounters>,
@@ -171,7 +171,7 @@ impl<S: BackendSelection, R: KeyRule + Drop, C: HealthCheck + Drop> SharedGroup<
             board,
             registry,
             gate,
-            loads: Mutex::new(Loads::new()),
+            loads: SharedLoads::new(alloc),
             updates: Mutex::new(()),
             lines,
             let_go: AtomicBool::new(false),
@@ -356,7 +356,7 @@ impl<S: BackendSelection, R: KeyRule + Drop, C: HealthCheck + Drop> SharedGroup<
         ensures { IfErr result (λ e. e ≡ Refusal.OutOfMemory) }
     {
         let _gate = &self.gate;
-        self.loads.lock(rt).set(alloc, backend, load)
+        self.loads.set(rt, alloc, backend, load)
     }
 }
 

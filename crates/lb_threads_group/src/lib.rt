@@ -6,7 +6,6 @@ mod backends;
 pub mod found;
 pub mod group;
 pub mod kept;
-mod marks;
 pub mod passes;
 pub mod port;
 mod reading;

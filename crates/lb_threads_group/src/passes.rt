@@ -232,8 +232,12 @@ impl<'g, 'r, S: BackendSelection, R: KeyRule + Drop, C: HealthCheck + Drop, W: W
     }
 
     fn load(&self, backend: &Backend) -> u64 {
+        let words = match &self.found {
+            Some(found) => found.loads(),
+            None => None,
+        };
         let group = self.group;
-        group.loads.lock(self.rt).get(backend)
+        group.loads.get(self.rt, words, backend)
     }
 }
 

@@ -226,8 +226,12 @@ impl<'g, 'r, 'f, S: BackendSelection, R: KeyRule + Drop, C: HealthCheck + Drop, 
     }
 
     fn load(&self, _reader: &Reader<S>, backend: &Backend) -> u64 {
+        let words = match self.found {
+            Some(found) => found.loads(),
+            None => None,
+        };
         let group = self.group;
-        group.loads.lock(self.rt).get(backend)
+        group.loads.get(self.rt, words, backend)
     }
 
     fn take_retired(&mut self, slot: usize) -> Result<Retired<S>, Refusal> {

@@ -14,7 +14,7 @@ const SPREAD: u64 = 0x9E37_79B9_7F4A_7C15;
 const LOOKS: usize = 16;
 
 /// The backend of each place; half of the places and more are empty.
-pub(crate) type Marks = Vec<Option<Backend>>;
+pub type Marks = Vec<Option<Backend>>;
 
 // A number of an address, by which few differ from the others in a group.
 fn number_of(address: &SocketAddr) -> u64 {
@@ -72,9 +72,9 @@ fn is_same(backend: &Backend, mark: &Backend) -> bool
     backend.weight == mark.weight
 }
 
-// The place that a backend of this identity has.
+/// Returns the place that a backend of this identity has.
 #[inline]
-pub(crate) fn place_of(marks: &[Option<Backend>], backend: &Backend) -> Option<usize>
+pub fn place_of(marks: &[Option<Backend>], backend: &Backend) -> Option<usize>
     ensures { IfSome result (λ i. (m : Member) × (slice_get marks.now i ≡ Some (Some m)) × (same_member backend.now m ≡ true)) }
 {
     let first = first_place(backend, marks.len());
@@ -104,8 +104,10 @@ fn free_place(marks: &[Option<Backend>], backend: &Backend) -> Option<usize> {
     None
 }
 
-// Places of these backends. One for which none is left among those that it may have has no place.
-pub(crate) fn marks_of(alloc: Global, backends: &BTreeSet<Backend>) -> Result<Marks, AllocError> {
+/// Returns places of these backends. One for which none is left among those that it may have has no place.
+///
+/// Refused where memory is refused.
+pub fn marks_of(alloc: Global, backends: &BTreeSet<Backend>) -> Result<Marks, AllocError> {
     let count = backends.len().saturating_mul(2).saturating_add(LOOKS);
     let mut marks = empty(alloc, count)?;
     for backend in backends {

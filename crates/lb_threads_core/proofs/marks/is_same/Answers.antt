@@ -4,7 +4,7 @@ use Rattle.std.specs.Cmp.Lexicographic.{bytes_decides}
 use Rattle.std.proofs.lemmas.Bool.{eqb-true}
 use Rattle.lb_select_base.specs.Backends.{Member, ipv4, same_member}
 use Rattle.lb_select_base.proofs.SameBackends.{same_by_identity}
-use Rattle.lb_threads_group.proofs.marks.is_same.Goals as goal
+use Rattle.lb_threads_core.proofs.marks.is_same.Goals as goal
 
 not_false : (b : Bool) → false ≡ not b → b ≡ true
 not_false true is = refl
