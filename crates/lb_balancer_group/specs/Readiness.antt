@@ -2,9 +2,6 @@
 use Rattle.std.specs.Prelude.{◌≡◌, ◌⊎◌, ◌<◌, ◌≤◌, ◌+◌, ◌^◌, ℕ, Option, Some, None}
 use Rattle.lb_rebuild_core.specs.SlotsCalls.{at_slot}
 use Rattle.lb_rebuild_core.specs.SlotsHistory.{past_of, served}
-use Rattle.lb_rebuild_core.specs.declared.answers.Timing.{Timing}
-use Rattle.lb_balancer_core.specs.Timings.{selector_timings}
-use Rattle.lb_balancer_core.specs.declared.timings.SelectorUpdateTimings.{SelectorUpdateTimings}
 use Rattle.lb_rebuild_core.specs.GroupHistory.{slot_events}
 use Rattle.lb_rebuild_core.specs.GroupStates.{GroupValue, After}
 use Rattle.lb_threads_group.specs.Group.{Seen}
@@ -30,9 +27,3 @@ module _ {C : Type 0} (site : GroupValue C) where
 
 abbrev pub EndsSleep : Event → Type 0
 EndsSleep e = (e ≡ on.Woke) ⊎ (e ≡ on.Rebuilt) ⊎ (e ≡ on.Shutdown)
-
--- the timing of a slot's last publication: none before the first, and none where no such slot is there
-abbrev pub last_timing : Option (Option Timing) → Option SelectorUpdateTimings
-last_timing (Some (Some t)) = Some (selector_timings t)
-last_timing (Some None) = None
-last_timing None = None

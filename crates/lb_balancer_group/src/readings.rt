@@ -6,7 +6,8 @@ ghost use Rattle.lb_rebuild_core.specs.SlotsHistory.{past_of, newest, is_cancell
 ghost use Rattle.lb_rebuild_core.specs.GroupHistory.{slot_events};
 ghost use Rattle.lb_rebuild_core.specs.GroupStates.{After};
 ghost use Rattle.lb_threads_group.specs.Group.{Seen};
-ghost use Rattle.lb_balancer_group.specs.Readiness.{AllServe, OneLags, SawServed, last_timing};
+ghost use Rattle.lb_balancer_core.specs.Timings.{last_timing};
+ghost use Rattle.lb_balancer_group.specs.Readiness.{AllServe, OneLags, SawServed};
 
 use crate::configured::Configured;
 use crate::group::LoadBalancerGroup;
