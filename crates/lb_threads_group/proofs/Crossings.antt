@@ -6,7 +6,9 @@ use Rattle.std.proofs.Crossing.{crosses}
 use Rattle.lb_select_base.specs.declared.walk.BackendSelection.{Ghosts as Selection}
 use Rattle.lb_select_base.specs.declared.walk.BackendIter.{Ghosts as Iter}
 use Rattle.lb_health_core.specs.declared.keys.KeyRule.{Ghosts as Keys}
-use Rattle.lb_select_base.proofs.loads.Loads.TheSendSync as loads
+use Rattle.lb_threads_core.proofs.loads.SharedLoads.TheSendSync as loads
+use Rattle.lb_threads_core.proofs.loads.LoadWords.TheSendSync as load_words
+use Rattle.lb_threads_core.proofs.generators.LaneGenerators.TheSendSync as generators
 use Rattle.lb_threads_core.proofs.lock.KeyedLock.TheSendSync as lock
 use Rattle.lb_rebuild.proofs.board.Board.TheSendSync as board
 use Rattle.lb_rebuild.specs.contracts.watched.Watched as watched
@@ -19,7 +21,6 @@ use Rattle.lb_threads_core.proofs.lanes.Lanes.TheSendSync as lanes
 use Rattle.lb_rebuild_core.specs.contracts.place.SlotPlace as place
 use Rattle.lb_rebuild_core.specs.contracts.retired.Reader as reader
 use Rattle.lb_threads_group.proofs.group.SlotCounters.TheSendSync as line
-use Rattle.lb_threads_group.proofs.group.LaneWords.TheSendSync as lane_words
 use Rattle.lb_threads_group.proofs.found.Tickets.TheSendSync as tickets
 use Rattle.lb_threads_core.proofs.words.KeyedWords.TheSendSync as keyed
 use Rattle.lb_threads_group.specs.contracts.found.Found as found
@@ -68,7 +69,10 @@ module _ (T R H I C W : RattleType) (g : Selection T.Denot I.Denot C.Denot W.Den
           search (sendable, crosses, maps.crosses, backend.the_send, backend.the_sync) depth 30,
           (
             search (sendable, crosses, keyed.the_field_send, keyed.the_send, subject_send, subject_sync) depth 30,
-            (search (sendable, crosses, tickets.the_send) depth 20, tt),
+            (
+              search (sendable, crosses, load_words.the_send, load_words.the_sync) depth 20,
+              (search (sendable, crosses, tickets.the_send) depth 20, tt),
+            ),
           ),
         ),
       ))
@@ -81,7 +85,10 @@ module _ (T R H I C W : RattleType) (g : Selection T.Denot I.Denot C.Denot W.Den
           search (sendable, crosses, maps.crosses, backend.the_send, backend.the_sync) depth 30,
           (
             search (sendable, crosses, keyed.the_field_sync, keyed.the_sync, subject_send, subject_sync) depth 30,
-            (search (sendable, crosses, tickets.the_sync) depth 20, tt),
+            (
+              search (sendable, crosses, load_words.the_send, load_words.the_sync) depth 20,
+              (search (sendable, crosses, tickets.the_sync) depth 20, tt),
+            ),
           ),
         ),
       ))
@@ -115,31 +122,28 @@ module _ (T R H I C W : RattleType) (g : Selection T.Denot I.Denot C.Denot W.Den
             (
               search (sendable, crosses, gate.the_send, gate.the_sync) depth 20,
               (
-                search (sendable, crosses) depth 20,
+                search (sendable, crosses, loads.the_field_send) depth 20,
                 (
-                  search (sendable, crosses, loads.the_send) depth 20,
+                  search (sendable, crosses) depth 20,
                   (
-                    search (sendable, crosses) depth 20,
+                    search (sendable, crosses, line.the_send) depth 20,
                     (
-                      search (sendable, crosses, line.the_send) depth 20,
+                      search (sendable, crosses) depth 20,
                       (
-                        search (sendable, crosses) depth 20,
+                        search (sendable, site_send) depth 20,
                         (
-                          search (sendable, site_send) depth 20,
+                          search (sendable, crosses, lanes.the_send, lanes.the_sync, entry_send, entry_sync) depth 20,
                           (
-                            search (sendable, crosses, lanes.the_send, lanes.the_sync, entry_send, entry_sync) depth 20,
+                            search (sendable, crosses) depth 20,
                             (
-                              search (sendable, crosses) depth 20,
+                              search (sendable, crosses, lock.the_send, lock.the_field_send, slot_words_send, slot_words_sync) depth 20,
                               (
-                                search (sendable, crosses, lock.the_send, lock.the_field_send, slot_words_send, slot_words_sync) depth 20,
+                                search (sendable, crosses) depth 20,
                                 (
                                   search (sendable, crosses) depth 20,
                                   (
                                     search (sendable, crosses) depth 20,
-                                    (
-                                      search (sendable, crosses) depth 20,
-                                      (search (sendable, crosses, lane_words.the_send, lane_words.the_sync) depth 20, tt),
-                                    ),
+                                    (search (sendable, crosses, generators.the_send, generators.the_sync) depth 20, tt),
                                   ),
                                 ),
                               ),
@@ -167,31 +171,28 @@ module _ (T R H I C W : RattleType) (g : Selection T.Denot I.Denot C.Denot W.Den
             (
               search (sendable, crosses, gate.the_send, gate.the_sync) depth 20,
               (
-                search (sendable, crosses) depth 20,
+                search (sendable, crosses, loads.the_field_sync) depth 20,
                 (
-                  search (sendable, crosses, loads.the_send) depth 20,
+                  search (sendable, crosses) depth 20,
                   (
-                    search (sendable, crosses) depth 20,
+                    search (sendable, crosses, line.the_sync) depth 20,
                     (
-                      search (sendable, crosses, line.the_sync) depth 20,
+                      search (sendable, crosses) depth 20,
                       (
-                        search (sendable, crosses) depth 20,
+                        search (sendable, site_sync) depth 20,
                         (
-                          search (sendable, site_sync) depth 20,
+                          search (sendable, crosses, lanes.the_send, lanes.the_sync, entry_send, entry_sync) depth 20,
                           (
-                            search (sendable, crosses, lanes.the_send, lanes.the_sync, entry_send, entry_sync) depth 20,
+                            search (sendable, crosses) depth 20,
                             (
-                              search (sendable, crosses) depth 20,
+                              search (sendable, crosses, lock.the_sync, lock.the_field_sync, slot_words_send, slot_words_sync) depth 20,
                               (
-                                search (sendable, crosses, lock.the_sync, lock.the_field_sync, slot_words_send, slot_words_sync) depth 20,
+                                search (sendable, crosses) depth 20,
                                 (
                                   search (sendable, crosses) depth 20,
                                   (
                                     search (sendable, crosses) depth 20,
-                                    (
-                                      search (sendable, crosses) depth 20,
-                                      (search (sendable, crosses, lane_words.the_send, lane_words.the_sync) depth 20, tt),
-                                    ),
+                                    (search (sendable, crosses, generators.the_send, generators.the_sync) depth 20, tt),
                                   ),
                                 ),
                               ),

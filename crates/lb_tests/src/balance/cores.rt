@@ -12,6 +12,7 @@ use lb_rebuild_core::gate::GateCore;
 use lb_select::least::LeastConnections;
 use lb_select_base::backend::Backend;
 use lb_select_base::refusal::Refusal;
+use lb_select_base::walk::BackendSelection;
 use rand_pcg::Pcg64;
 use std::alloc::Global;
 use std::net::Net;
@@ -44,6 +45,18 @@ fn told_by_texts<T: Net>(net: &T, alloc: Global) -> Result<[Answer; 3], Refusal>
     ])
 }
 
+// Whether the gate's permit is out.
+fn is_busy<S: BackendSelection>(ask: Ask<S>) -> bool {
+    match ask {
+        Ask::Busy => true,
+        Ask::Job(job) => {
+            end_job(job);
+            false
+        }
+        Ask::Cancelled | Ask::Building | Ask::Nothing | Ask::NotDue(_) => false,
+    }
+}
+
 // Whether a slot of a group that got another gate asks that one, while its permit is out.
 fn asks_another_gate(alloc: Global) -> Result<bool, Refusal> {
     let mut registry = RegistryCore::new(alloc);
@@ -71,12 +84,8 @@ fn asks_another_gate(alloc: Global) -> Result<bool, Refusal> {
     let asked = group.group.ask(0, &mut gate, 10);
     gate.give_back(permit);
     match asked {
-        Ok(Ask::Busy) => Ok(true),
-        Ok(Ask::Job(job)) => {
-            end_job(job);
-            Ok(false)
-        }
-        _ => Ok(false),
+        Ok(ask) => Ok(is_busy(ask)),
+        Err(_) => Ok(false),
     }
 }
 
