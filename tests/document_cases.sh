@@ -52,7 +52,7 @@ absent_documents() {
     done
 }
 # Names under a module of the facade that a document has and the facade doesn't pass on.
-facade_modules='background|core|discovery|health_check|port|prelude|schedule|selection|simulation'
+facade_modules='background|discovery|health_check|plain|port|prelude|schedule|selection|simulation'
 absent_names() {
     local path
     grep -ohE "\\b($facade_modules)::[A-Za-z_]+" README.md docs/DIFFERENCES.md | sort -u | while read -r path; do

@@ -1,13 +1,13 @@
 //! Load balancing: backends, selection, health, and groups of selectors that worker threads rebuild while requests go on.
 //!
 //! The types at the root and in `prelude` are the ones that threads share. The plain states behind them, for callers that have
-//! one thread or locks of their own, are in `core`. Modules have the upstream crate's names where it has them.
+//! one thread or locks of their own, are in `plain`. Modules have the upstream crate's names where it has them.
 #![tactic(auto)]
 
 pub mod background;
-pub mod core;
 pub mod discovery;
 pub mod health_check;
+pub mod plain;
 pub mod port;
 pub mod prelude;
 pub mod schedule;
