@@ -63,7 +63,7 @@ impl ServiceDiscovery for Halves {
 
 // A check that is never set.
 #[derive(Drop)]
-pub(crate) struct Unchecked {}
+struct Unchecked {}
 
 impl HealthCheck for Unchecked {
     ghost threshold = { λ _ _. 1 };
