@@ -11,11 +11,12 @@ ghost use Rattle.lb_balancer.specs.SharedUpdates.{IsSharedRefusal, IsSharedUpdat
 
 use crate::balancing::Balancing;
 use crate::kept::hint_of;
-use crate::shown::{Shown, ready_ones};
+use crate::shown::Shown;
 use lb_balancer_core::timings::UpdateTimings;
 use lb_health_core::health_check::{BoxedCheck, HealthCheck};
 use lb_health_core::keys::{KeyRule, Rule};
 use lb_health_view::discovery::{BoxedDiscovery, ServiceDiscovery};
+use lb_rebuild_core::group::ready_ones;
 use lb_select_base::backend::Backend;
 use lb_select_base::moments::MomentSource;
 use lb_select_base::refusal::Refusal;

@@ -7,10 +7,11 @@ ghost use Rattle.lb_balancer.specs.Selections.{SelectsFrom};
 
 use crate::balancing::Balancing;
 use crate::load_balancer::LoadBalancer;
-use crate::shown::{Shown, ready_ones};
+use crate::shown::Shown;
 use lb_health_core::health_check::HealthCheck;
 use lb_health_core::keys::KeyRule;
 use lb_health_view::discovery::ServiceDiscovery;
+use lb_rebuild_core::group::ready_ones;
 use lb_select_base::backend::Backend;
 use lb_select_base::refusal::Refusal;
 use lb_select_base::walk::BackendSelection;

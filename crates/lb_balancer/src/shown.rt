@@ -7,6 +7,7 @@ ghost use Rattle.lb_rebuild_core.specs.GroupCalls.{AcceptsBy};
 ghost use Rattle.lb_balancer.specs.Shown.{SelectsOf, is_ready, is_up};
 
 use crate::words::LoadedWords;
+use lb_rebuild_core::group::ready_ones;
 use lb_select_base::backend::Backend;
 use lb_select_base::refusal::Refusal;
 use lb_select_base::select::select;
@@ -183,11 +184,4 @@ impl<S: BackendSelection> Shown<S> {
     {
         self.select_with(rt, alloc, key, max_iterations, &ready_ones)
     }
-}
-
-// Accepts what is ready.
-pub(crate) fn ready_ones(_backend: &Backend, ready: bool) -> bool
-    ensures { result ≡ ready }
-{
-    ready
 }

@@ -21,6 +21,7 @@ ghost use Rattle.lb_balancer_core.specs.Timings.{Reads};
 use lb_health_core::keys::KeyRule;
 use lb_health_core::registry::Registry;
 use lb_health_view::view::{Settings, ViewCore};
+use lb_rebuild_core::group::ready_ones;
 use lb_select_base::backend::Backend;
 use lb_select_base::moments::MomentSource;
 use lb_select_base::refusal::Refusal;
@@ -310,13 +311,6 @@ fn selector_of<S: BackendSelection>(
     };
     let selector = Arc::new(alloc, selector)?;
     Ok(selector)
-}
-
-// Accepts what is ready.
-fn ready_ones(_backend: &Backend, ready: bool) -> bool
-    ensures { result ≡ ready }
-{
-    ready
 }
 
 // The selector of another membership; refused for the least cause that applies, and for memory only where there is none.

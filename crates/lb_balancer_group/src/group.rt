@@ -23,6 +23,7 @@ use lb_balancer_core::timings::{SelectorUpdateTimings, UpdateTimings};
 use lb_health_core::health_check::{BoxedCheck, HealthCheck};
 use lb_health_core::keys::{KeyRule, Rule};
 use lb_health_view::discovery::{BoxedDiscovery, DiscoverySource, ServiceDiscovery};
+use lb_rebuild_core::group::ready_ones;
 use lb_select_base::backend::Backend;
 use lb_select_base::causes::least_refusal;
 use lb_select_base::moments::MomentSource;
@@ -308,11 +309,4 @@ impl<
     pub fn cancel<W: Wait>(&self, rt: &W) {
         self.shared.cancel(rt);
     }
-}
-
-// Whether a backend is selected where the ready ones are.
-pub(crate) fn ready_ones(_backend: &Backend, ready: bool) -> bool
-    ensures { result ≡ ready }
-{
-    ready
 }

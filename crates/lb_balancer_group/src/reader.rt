@@ -5,10 +5,11 @@ ghost use Rattle.lb_balancer_core.specs.Looks.{Answers};
 ghost use Rattle.lb_threads_group.specs.Kept.{SelectedFrom};
 
 use crate::configured::Configured;
-use crate::group::{LoadBalancerGroup, ready_ones};
+use crate::group::LoadBalancerGroup;
 use lb_health_core::health_check::{BoxedCheck, HealthCheck};
 use lb_health_core::keys::{KeyRule, Rule};
 use lb_health_view::discovery::ServiceDiscovery;
+use lb_rebuild_core::group::ready_ones;
 use lb_select_base::backend::Backend;
 use lb_select_base::refusal::Refusal;
 use lb_select_base::walk::BackendSelection;

@@ -713,8 +713,8 @@ fn hold_first(view: &mut ViewCore, slots: usize)
     }
 }
 
-// Accepts what is ready.
-fn ready_ones(_backend: &Backend, ready: bool) -> bool
+/// Returns whether a backend is ready: what `select_with` accepts where the ready ones are wanted.
+pub fn ready_ones(_backend: &Backend, ready: bool) -> bool
     ensures { result ≡ ready }
 {
     ready
