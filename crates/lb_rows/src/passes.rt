@@ -218,7 +218,13 @@ fn run_passes<L: Log, C: HealthCheck>(
     let mut set = BTreeSet::new(alloc);
     set.insert(backend.clone()?)?;
     let settings = Settings::new(alloc);
-    view.update(alloc, registry, set, settings, |lent: &BTreeSet<Backend>| lent.len())?;
+    view.update(
+        alloc,
+        registry,
+        set,
+        settings,
+        |lent: &BTreeSet<Backend>| lent.len(),
+    )?;
     let before = view.ready(registry, backend);
     run_health_check(log, alloc, registry, check)?;
     let once = view.ready(registry, backend);
