@@ -16,10 +16,9 @@ pub use lb_health_http::{
     AcceptStatus, BasicPeer, HttpHealthCheck, HttpPeer, MAX_BODY_BYTES, NoObserver, TcpHealthCheck,
     Validate, check_over, request_for,
 };
-pub use lb_health_view::backends::{BackendView, Backends, BackendsParts};
 pub use lb_health_view::discovery::{
     BoxedDiscovery, Discovered, DiscoverySource, ServiceDiscovery, Static,
 };
 pub use lb_health_view::laws as view_laws;
-pub use lb_health_view::registry::HealthRegistry;
+pub use lb_health_view::passes::run_health_check;
 pub use lb_health_view::view::{Settings, ViewCore};

@@ -1,17 +1,11 @@
--- A pass of checks over the targets of a registry, and what contracts see of a registry with its check.
-use Rattle.std.specs.Prelude.{◌≡◌, ◌⊎◌, ℕ, Bool, List, [], ◌∷◌, Option, Some, None, Result, is_ok}
+-- A pass of checks over the targets of a registry.
+use Rattle.std.specs.Prelude.{◌≡◌, ◌⊎◌, ℕ, Bool, List, [], ◌∷◌, Result, is_ok}
 use Rattle.std.specs.List.{AllByRecursion as Each}
 use Rattle.lb_health_core.specs.declared.error.CheckError.{CheckError}
 use Rattle.lb_select_base.specs.Backends.{Member}
 use Rattle.lb_health_core.specs.declared.targets.Target.{Target}
-use Rattle.lb_health_core.specs.Registry.{RegistryValue}
 use Rattle.lb_health_core.specs.RegistryEvents.{Event, Observed, IsCellKept}
 use Rattle.lb_health_core.specs.Verdicts.{Verdict}
-
--- a registry, and the check that is set
-pub record HealthValue (R C : Type 0) : Type 0 where
-  pub registry : RegistryValue R
-  pub check : Option C
 
 -- a verdict reaches a cell that is kept, and of another it does nothing
 abbrev pub Reaches : (Member → Member) → ℕ → Verdict → List Event → List Event → Type 0
@@ -32,11 +26,6 @@ Passes answers threshold [] events after = after ≡ events
 Passes answers threshold (target ∷ targets) events after =
     (answer : Result Unit CheckError) × answers target.backend answer
     × Passes answers threshold targets (Observed target.cell (verdict_of threshold answer) ∷ events) after
-
--- a pass, which without a check does nothing more than what came before
-abbrev pub PassesWith : {C : Type 0} → (C → Answers) → (C → Bool → ℕ) → Option C → List Target → List Event → List Event → Type 0
-PassesWith answers threshold None targets events after = after ≡ events
-PassesWith answers threshold (Some check) targets events after = Passes (answers check) (threshold check) targets events after
 
 -- the cell of each of these targets is kept
 abbrev pub AreKept : (Member → Member) → List Target → List Event → Type 0

@@ -2,11 +2,10 @@
 //! describe a view by the history of its events, and a registry of cells by its own; a call says what it adds to each.
 #![tactic(auto)]
 
-pub mod backends;
 mod cells;
 pub mod discovery;
 pub mod laws;
 mod lookup;
-pub mod registry;
+pub mod passes;
 mod snapshot;
 pub mod view;

@@ -23,7 +23,7 @@ use lb_health_core::health_check::{BoxedCheck, HealthCheck};
 use lb_health_core::keys::{KeyRule, Rule};
 use lb_health_core::registry::Registry;
 use lb_health_core::targets::Target;
-use lb_health_view::registry::tell;
+use lb_health_view::passes::tell;
 use lb_select_base::backend::Backend;
 use lb_select_base::refusal::Refusal;
 use log::Log;

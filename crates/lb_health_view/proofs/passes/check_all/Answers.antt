@@ -2,7 +2,7 @@ use Rattle.std.proofs.Common.{◌≡◌, ◌+◌, ◌<◌, sym, subst, List, ◌
 use Rattle.lb_health_core.specs.declared.targets.Target.{Target}
 use Rattle.lb_health_view.specs.Passes.{Passes, AreKept}
 use Rattle.lb_health_view.proofs.PassLemmas.{reached}
-use Rattle.lb_health_view.proofs.registry.check_all.Goals as goal
+use Rattle.lb_health_view.proofs.passes.check_all.Goals as goal
 
 pub loop-target-preserved : goal.loop-target-preserved
 loop-target-preserved g c = (

@@ -3,7 +3,7 @@ use Rattle.lb_select_base.specs.Backends.{Member}
 use Rattle.lb_health_core.specs.Registry.{IsRegistryAfter}
 use Rattle.lb_health_core.specs.RegistryEvents.{Event}
 use Rattle.lb_health_view.specs.Passes.{Passes, AreKept}
-use Rattle.lb_health_view.proofs.registry.check_all.Given as goal
+use Rattle.lb_health_view.proofs.passes.check_all.Given as goal
 
 abbrev pub invariant-loop-target : goal.invariant-loop-target
 invariant-loop-target g l = (l.registry.id ≡ l.fn.registry.id)

@@ -1,5 +1,0 @@
-use Rattle.lb_health_core.specs.Keys.{by_address}
-use Rattle.lb_health_view.proofs.registry.HealthRegistry+Rule+N+C.by_address.Goals as goal
-
-pub returns-clause-registry : goal.returns-clause-registry
-returns-clause-registry g c = c.with_rule.ensures by_address (λ b k h. h)

@@ -1,0 +1,117 @@
+//! Passes that check the targets of a registry one by one. A verdict reaches the cell of its target; where that flips, the check's
+//! observer is called, and then a line is logged.
+ghost use Rattle.std.specs.Prelude.{◌≡◌, ◌↔◌, ◌≤◌, ◌^◌, ◌∷◌, List, Result, OnOk, OnErr, IsErrOf};
+ghost use Rattle.lb_health_core.specs.declared.error.CheckError.{CheckError};
+ghost use Rattle.lb_select_base.specs.Backends.{Member};
+ghost use Rattle.lb_health_core.specs.Registry.{IsRegistryAfter, IsGrowthRefusal, targets_after};
+ghost use Rattle.lb_health_core.specs.RegistryEvents.{Event, Applied, cells_given};
+ghost use Rattle.lb_health_view.specs.Passes.{Reaches, Passes, AreKept, verdict_of};
+
+use lb_health_core::error::CheckError;
+use lb_health_core::health_check::HealthCheck;
+use lb_health_core::keys::KeyRule;
+use lb_health_core::registry::Registry;
+use lb_health_core::targets::Target;
+use lb_select_base::backend::Backend;
+use lb_select_base::refusal::Refusal;
+use log::{Log, info, warn};
+use std::alloc::Global;
+
+/// Applies the marks that wait, and then checks each target of the registry once, one after another.
+///
+/// Each verdict reaches the cell of its target.
+///
+/// # Errors
+///
+/// Those of `Registry::target_count`, before the first check.
+pub fn run_health_check<R: KeyRule + Drop, C: HealthCheck, L: Log>(
+    rt: &L,
+    alloc: Global,
+    registry: &mut Registry<R>,
+    check: &C,
+) -> Result<(), Refusal>
+    ensures ok { OnOk result ((key_of : Member → Member) (events : List Event)
+        → IsRegistryAfter R.gives key_of events registry.old
+        → (after : List Event)
+        × Passes (C.answers check.now) (C.threshold check.now) (targets_after key_of (Applied ∷ events)) (Applied ∷ events) after
+        × IsRegistryAfter R.gives key_of after registry.new) }
+    ensures err { OnErr result ((key_of : Member → Member) (events : List Event)
+        → IsRegistryAfter R.gives key_of events registry.old
+        → IsRegistryAfter R.gives key_of events registry.new) }
+    ensures exhausted { (key_of : Member → Member) (events : List Event) → IsRegistryAfter R.gives key_of events registry.old
+        → (IsErrOf result Refusal.NumbersExhausted ↔ (2 ^ 64 ≤ cells_given key_of (Applied ∷ events))) }
+    ensures refused { OnErr result (IsGrowthRefusal result) }
+    ensures one { registry.new.id ≡ registry.old.id }
+{
+    let targets = registry.targets(alloc)?;
+    check_all(rt, alloc, registry, check, targets.as_slice());
+    Ok(())
+}
+
+// Checks each of the targets once. Their cells are kept all the while, so that each verdict reaches its cell.
+fn check_all<R: KeyRule + Drop, C: HealthCheck, L: Log>(
+    rt: &L,
+    alloc: Global,
+    registry: &mut Registry<R>,
+    check: &C,
+    targets: &[Target],
+)
+    ensures after { (key_of : Member → Member) (events : List Event) → IsRegistryAfter R.gives key_of events registry.old
+        → AreKept key_of targets.now events
+        → (after : List Event) × Passes (C.answers check.now) (C.threshold check.now) targets.now events after
+        × IsRegistryAfter R.gives key_of after registry.new }
+    ensures one { registry.new.id ≡ registry.old.id }
+{
+    for target in targets {
+        check_one(rt, alloc, registry, check, target);
+    }
+}
+
+// Checks a target, gives the verdict to its cell, and reports a flip.
+fn check_one<R: KeyRule + Drop, C: HealthCheck, L: Log>(
+    rt: &L,
+    alloc: Global,
+    registry: &mut Registry<R>,
+    check: &C,
+    target: &Target,
+)
+    ensures after { (key_of : Member → Member) (events : List Event) → IsRegistryAfter R.gives key_of events registry.old
+        → (answer : Result Unit CheckError) × C.answers check.now target.now.backend answer × (after : List Event)
+        × Reaches key_of target.now.cell (verdict_of (C.threshold check.now) answer) events after
+        × IsRegistryAfter R.gives key_of after registry.new }
+    ensures one { registry.new.id ≡ registry.old.id }
+{
+    let verdict = check.check(alloc, &target.backend);
+    let healthy = verdict.is_ok();
+    let threshold = check.health_threshold(healthy);
+    match registry.observe(target.cell, healthy, threshold) {
+        Ok(true) => tell(rt, alloc, check, &target.backend, verdict),
+        Ok(false) => {}
+        // A cell that is kept no longer.
+        Err(_) => {}
+    }
+}
+
+/// Reports to the check that the health of a backend flipped, and then logs it.
+///
+/// The line is `.. becomes healthy`, or `.. becomes unhealthy` with the name of the fault. Where the summary is refused for memory, there
+/// is no line.
+pub fn tell<C: HealthCheck, L: Log>(
+    rt: &L,
+    alloc: Global,
+    check: &C,
+    backend: &Backend,
+    verdict: Result<(), CheckError>,
+) {
+    check.health_status_change(backend, verdict.is_ok());
+    let Ok(summary) = check.backend_summary(alloc, backend) else {
+        return;
+    };
+    match verdict {
+        Ok(()) => info!(rt; "{summary} becomes healthy"),
+        Err(fault) => {
+            let name = fault.name();
+            warn!(rt; "{summary} becomes unhealthy, {name}");
+        }
+    }
+}
