@@ -282,7 +282,12 @@ fn plays<S: BackendSelection, D: ServiceDiscovery + Drop>(
     rt: &(impl Abort + Log),
 ) {
     for (at, (call, wanted)) in calls.iter().enumerate() {
-        assert_same(rt, &answer(alloc, balancer, registry, *call, rt), wanted, &at);
+        assert_same(
+            rt,
+            &answer(alloc, balancer, registry, *call, rt),
+            wanted,
+            &at,
+        );
     }
 }
 

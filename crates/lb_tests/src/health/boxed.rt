@@ -1,7 +1,9 @@
 //! What a caller boxes. A check that `new` makes goes into a box, which a pass takes as its check; so do an observer and a discovery.
 use crate::asserted::assert_same;
 use crate::health::passes::update_by;
-use lb_health_core::health_check::{BoxedCheck, HealthCheck, HealthObserveCallback, IdentitySummary};
+use lb_health_core::health_check::{
+    BoxedCheck, HealthCheck, HealthObserveCallback, IdentitySummary,
+};
 use lb_health_core::registry::RegistryCore;
 use lb_health_http::{NoObserver, TcpHealthCheck};
 use lb_health_view::discovery::{BoxedDiscovery, DiscoverySource, Static};
@@ -42,6 +44,11 @@ fn takes_a_boxed_observer_and_discovery(rt: HostRuntime) -> Result<(), Fail> {
     let check = TcpHealthCheck::new(rt).with_callbacks(Some(observer), IdentitySummary);
     let found: BoxedDiscovery = Box::new(alloc, Static::default(alloc))?;
     let source = DiscoverySource::Boxed(found);
-    assert_same(&rt, &updated(alloc, &source, &check, &rt), &Ok(None), &"what is boxed");
+    assert_same(
+        &rt,
+        &updated(alloc, &source, &check, &rt),
+        &Ok(None),
+        &"what is boxed",
+    );
     Ok(())
 }

@@ -176,16 +176,16 @@ impl Checked {
 }
 
 // An update by a discovery that answers a fault is refused, and changes nothing: a pass asks nothing then. The next update is not refused.
-fn fault_is_told(
-    alloc: Global,
-    checked: &mut Checked,
-    counts: &Counts,
-    rt: &(impl Abort + Log),
-) {
+fn fault_is_told(alloc: Global, checked: &mut Checked, counts: &Counts, rt: &(impl Abort + Log)) {
     let refused = checked.update(alloc);
     let counted = checked.count(alloc);
     let passed = (checked.run(alloc, rt), counts.asked.get());
-    assert_same(rt, &(counted, passed), &(Ok([0, 0, 0]), (Ok(()), 0)), &"nothing is asked");
+    assert_same(
+        rt,
+        &(counted, passed),
+        &(Ok([0, 0, 0]), (Ok(()), 0)),
+        &"nothing is asked",
+    );
     counts.lost.set(false);
     let then = checked.update(alloc);
     let wanted = ((Err(Refusal::Discovery), 0), (Ok(Some(2)), 1));
@@ -289,7 +289,12 @@ fn view_of(
     member: (&str, usize),
 ) -> Result<ViewCore, Refusal> {
     let mut view = ViewCore::register(alloc, registry)?;
-    update_by(alloc, &always::<Pair>(alloc, &[member])?, registry, &mut view)?;
+    update_by(
+        alloc,
+        &always::<Pair>(alloc, &[member])?,
+        registry,
+        &mut view,
+    )?;
     Ok(view)
 }
 
