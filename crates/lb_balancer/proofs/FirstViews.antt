@@ -14,8 +14,8 @@ use Rattle.lb_health_core.specs.RegistryEvents.{Updated, Applied, cells_given, h
 use Rattle.lb_health_view.specs.RegistrySide.{view_updated}
 use Rattle.lb_health_view.specs.ViewEvents.{Shown, generation_after, membership_after}
 use Rattle.lb_health_view.specs.Views.{IsViewRefusal}
-use Rattle.lb_balancer_core.specs.Balancer.{Took, update_cause}
-use Rattle.lb_balancer_core.specs.Texts.{one_view}
+use Rattle.lb_balancer_core.specs.Balancer.{update_cause}
+use Rattle.lb_balancer.specs.Texts.{one_view}
 
 pub no-members : (members : List Member) → same_members members [] ≡ true → members ≡ []
 no-members [] e = refl
@@ -54,7 +54,7 @@ module _ {A : Type 0} (members : List Member) (e : Refusal) (other : same_member
   pub first-refused : IsViewRefusal told → (IsErrOf told GenerationsExhausted → generation_after [] + 1 ≡ 2 ^ 64)
       → (IsErrOf told NoSuch → has_view 1 (views_after one_view) ≡ false)
       → (IsErrOf told NumbersExhausted → 2 ^ 64 ≤ cells_given by_identity (Updated 1 members ∷ Applied ∷ one_view))
-      → (e ≡ OutOfMemory) ⊎ (update_cause None by_identity 1 members one_view (Took [] ∷ []) ≡ Some e)
+      → (e ≡ OutOfMemory) ⊎ (update_cause None by_identity 1 members one_view [] ≡ Some e)
   first-refused (inl is) last unknown numbers = absurd (omega (arith, last is))
   first-refused (inr (inl is)) last unknown numbers = inl (err_of A e OutOfMemory is)
   first-refused (inr (inr (inl is))) last unknown numbers =

@@ -10,9 +10,9 @@ use Rattle.lb_select_base.specs.declared.refusal.Refusal.{Refusal}
 use Rattle.lb_select_base.specs.declared.refusal.Refusal.TheVariants as refusal
 use Rattle.lb_health_core.specs.Keys.{by_identity}
 use Rattle.lb_health_view.specs.Lookups.{IsMadeOf}
-use Rattle.lb_balancer_core.specs.Balancer.{Took, update_cause}
-use Rattle.lb_balancer_core.specs.Texts.{IsTextsRefusal, one_view}
+use Rattle.lb_balancer_core.specs.Balancer.{update_cause}
 use Rattle.lb_balancer_core.specs.Timings.{Reads}
+use Rattle.lb_balancer.specs.Texts.{IsTextsRefusal, one_view}
 use Rattle.lb_balancer.proofs.FirstViews.{no-members}
 
 apart : (e : Refusal) → (e ≡ refusal.OutOfMemory) ⊎ (memory_apart (Some e) ≡ Some e)
@@ -54,7 +54,7 @@ module _ (texts : List (Bor (List ℕ))) (build : List Member → Option Refusal
 
   -- the view of them is refused
   pub view-refused : build members ≡ None
-      → (e ≡ refusal.OutOfMemory) ⊎ (update_cause None by_identity 1 members one_view (Took [] ∷ []) ≡ Some e)
+      → (e ≡ refusal.OutOfMemory) ⊎ (update_cause None by_identity 1 members one_view [] ≡ Some e)
       → IsTextsRefusal texts build e
   view-refused none (inl memory) = inr (inl memory)
   view-refused none (inr cause) = inr (inr (inr (members, there, rw none cause)))

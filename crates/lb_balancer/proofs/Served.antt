@@ -13,7 +13,7 @@ use Rattle.lb_health_view.specs.declared.discovery.DiscoverySource.TheVariants a
 use Rattle.lb_health_view.specs.RegistrySide.{after_settings, view_updated, with_membership}
 use Rattle.lb_health_view.specs.ViewEvents.{ViewEvent, Set, Shown, generation_after, membership_after}
 use Rattle.lb_health_view.specs.Views.{IsViewAfter}
-use Rattle.lb_balancer_core.specs.Texts.{one_view}
+use Rattle.lb_balancer.specs.Texts.{one_view}
 use Rattle.lb_balancer.specs.History.{AreDiscovered, BalancerValue, IsServedBy, IsShownBy, MayGive, Takes}
 use Rattle.lb_balancer.specs.Shown.{ServingValue, ShownValue, ShowsView}
 use Rattle.lb_balancer.proofs.Memberships.{kept-members, new-members}

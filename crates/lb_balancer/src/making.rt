@@ -1,5 +1,5 @@
 //! Makes a balancer from texts. It serves its backends before threads share it, so its refusals are stated exactly.
-ghost use Rattle.std.specs.Prelude.{◌≡◌, ◌⊎◌, [], ◌∷◌, ℕ, List, length, None, Some, true, false, IfOk, IfErr, OnOk, if◌then◌else◌};
+ghost use Rattle.std.specs.Prelude.{◌≡◌, ◌⊎◌, [], ℕ, List, length, None, Some, true, false, IfOk, IfErr, OnOk, if◌then◌else◌};
 ghost use Rattle.std.specs.Arc.{arc_value};
 ghost use Rattle.std.specs.Borrow.{Bor};
 ghost use Rattle.std.specs.Iterator.{Drains, IsFinite};
@@ -9,10 +9,9 @@ ghost use Rattle.lb_health_core.specs.Keys.{by_identity};
 ghost use Rattle.lb_health_core.specs.Registry.{IsRegistryAfter};
 ghost use Rattle.lb_health_view.specs.RegistrySide.{registry_updated, view_updated};
 ghost use Rattle.lb_health_view.specs.Views.{IsViewAfter};
-ghost use Rattle.lb_balancer_core.specs.Balancer.{Took, update_cause};
-ghost use Rattle.lb_balancer_core.specs.Texts.{IsTextsRefusal, one_view};
+ghost use Rattle.lb_balancer_core.specs.Balancer.{update_cause};
 ghost use Rattle.lb_balancer_core.specs.Timings.{Reads};
-ghost use Rattle.lb_balancer.specs.Texts.{IsOfTexts};
+ghost use Rattle.lb_balancer.specs.Texts.{IsOfTexts, IsTextsRefusal, one_view};
 
 use crate::balancing::Balancing;
 use crate::load_balancer::LoadBalancer;
@@ -124,7 +123,7 @@ fn first_served<S: BackendSelection, R: KeyRule + Drop>(
     ensures registry { OnOk result (IsRegistryAfter R.gives by_identity (registry_updated by_identity 1 members.keys [] one_view)
         registry.new) }
     ensures refused { IfErr result (λ r. (r ≡ Refusal.OutOfMemory)
-        ⊎ (update_cause None by_identity 1 members.keys one_view (Took [] ∷ []) ≡ Some r)) }
+        ⊎ (update_cause None by_identity 1 members.keys one_view [] ≡ Some r)) }
     ensures one_registry { registry.new.id ≡ registry.old.id }
 {
     let mut view = ViewCore::register(alloc, registry)?;

@@ -1,12 +1,11 @@
 -- A balancer that is made of texts: its discovery always answers what was looked up, so that an update of it is one to that.
-use Rattle.std.proofs.Common.{◌≡◌, ◌⊎◌, ◌∙◌, ◌≤◌, ◌+◌, ◌^◌, ℕ, List, [], ◌∷◌, Option, Some, None, Result, Ok}
+use Rattle.std.proofs.Common.{◌≡◌, ◌⊎◌, ◌∙◌, ◌≤◌, ◌+◌, ◌^◌, ℕ, List, [], Option, Some, None, Result, Ok}
 use Rattle.std.proofs.Common.{Err, IfErr, IsErrOf, OnErr, OnOk, inl, inr, sym, subst, ap}
 use Rattle.std.specs.Borrow.{Bor}
 use Rattle.lb_select_base.specs.Backends.{Member}
 use Rattle.lb_select_base.specs.Refusals.{memory_apart}
 use Rattle.lb_select_base.specs.declared.refusal.Refusal.{Refusal}
 use Rattle.lb_select_base.specs.declared.refusal.Refusal.TheVariants.{NumbersExhausted, OutOfMemory}
-use Rattle.lb_health_core.specs.Keys.{by_identity}
 use Rattle.lb_health_core.specs.Registry.{RegistryValue, IsRegistryAfter}
 use Rattle.lb_health_core.specs.RegistryEvents.{Event, registered_after}
 use Rattle.lb_health_view.specs.Discoveries.{Discovers, Found}
@@ -14,72 +13,15 @@ use Rattle.lb_health_view.specs.RegistrySide.{registry_updated}
 use Rattle.lb_health_view.specs.Lookups.{IsMadeOf}
 use Rattle.lb_health_view.specs.declared.discovery.DiscoverySource.{DiscoverySource}
 use Rattle.lb_health_view.specs.declared.discovery.DiscoverySource.TheVariants.{Static}
-use Rattle.lb_balancer_core.specs.Balancer.{ServedValue, Stands, Took, update_cause, updated}
+use Rattle.lb_balancer_core.specs.Balancer.{ServedValue, Stands, update_cause, updated}
 use Rattle.lb_balancer_core.specs.BalancerUpdates.{IsRefusal, IsUpdated}
-use Rattle.lb_balancer_core.specs.Texts.{IsOfTexts, IsOfTextsIn, IsTextsRefusal, IsTextsRefusalIn, one_more, one_view}
+use Rattle.lb_balancer_core.specs.Texts.{IsOfTextsIn, IsTextsRefusalIn, one_more}
 use Rattle.lb_rebuild_core.specs.GroupCalls.{IsMakingRefusal}
 use Rattle.lb_balancer_core.specs.declared.timings.UpdateTimings.{UpdateTimings}
 
 -- refused for this cause, or for memory where there is none
 abbrev IsFor : Option Refusal → Refusal → Type 0
 IsFor cause r = (cause ≡ Some r) ⊎ ((cause ≡ None) × (r ≡ OutOfMemory))
-
--- a selector over no backends is refused
-pub none-built : (texts : List (Bor (List ℕ))) (build : List Member → Option Refusal) (r : Refusal)
-    → (build [] ≡ Some r) ⊎ ((build [] ≡ None) × (r ≡ OutOfMemory)) → IsTextsRefusal texts build r
-none-built texts build r (inl h) = inr (inr (inl h))
-none-built texts build r (inr h) = inr (inl h.1)
-
-module _ {C G R : Type 0} (gives : R → Member → Member → Type 0) (build : List Member → C → Option Refusal) (default : C)
-    (texts : List (Bor (List ℕ))) (found : List Member) (was : ServedValue C G) (before : RegistryValue R)
-    (config : was.config ≡ default) (id : was.view.id ≡ 1) (stands : Stands (Took [] ∷ []) was)
-    (registry : IsRegistryAfter gives by_identity one_view before) (made : IsMadeOf texts (Ok found)) where
-  cause-told : (members : List Member) (r : Refusal) → members ≡ found
-      → IsFor (update_cause (build members default) by_identity 1 members one_view (Took [] ∷ [])) r
-      → IsTextsRefusal texts (λ ms. build ms default) r
-  cause-told members r is (inl some) = inr (inr (inr (members, subst (λ ms. IsMadeOf texts (Ok ms)) (sym is) made, some)))
-  cause-told members r is (inr none) = inr (inl none.1)
-
-  module _ {D : Type 0} (finds : D → Found → Type 0) where
-    refused-of : (r : Refusal) → IsRefusal finds gives (Static found) was before build r → IsTextsRefusal texts (λ ms. build ms default) r
-    refused-of r (inl h) = absurd h.1
-    refused-of r (inr (inl memory)) = inr (inl memory.0)
-    refused-of r (inr (inr a)) =
-        cause-told a.members r a.discovered.0
-        (subst (λ c. IsFor (update_cause (build a.members c) by_identity 1 a.members one_view (Took [] ∷ [])) r) config
-        (subst (λ i. IsFor (update_cause (build a.members was.config) by_identity i a.members one_view (Took [] ∷ [])) r) id
-        (a.cause by_identity one_view registry (Took [] ∷ []) stands)))
-
-    -- the one update of it is refused
-    pub update-refused : (discovery : DiscoverySource D) (r : Refusal) → discovery ≡ Static found
-        → IsRefusal finds gives discovery was before build r
-        → IsTextsRefusal texts (λ ms. build ms default) r
-    update-refused discovery r is h = refused-of r (subst (λ d. IsRefusal finds gives d was before build r) is h)
-
-    -- the one update of it is made
-    pub updated-once : {K : Type 0} (reads : K → ℕ → K → Type 0) (discovery after_discovery : DiscoverySource D) (clock clock_after : K)
-        (now : ServedValue C G) (after : RegistryValue R) (timing : Option UpdateTimings) → discovery ≡ Static found
-        → after_discovery ≡ discovery
-        → IsUpdated finds gives discovery was before build reads clock clock_after now after timing
-        → IsOfTexts gives reads texts clock clock_after after_discovery now after timing
-    updated-once reads discovery after_discovery clock clock_after now after timing is same u =
-        let discovered : Discovers finds (Static found) u.members u.settings =
-        subst (λ d. Discovers finds d u.members u.settings) is u.discovered in
-        record {
-          members = found;
-          times = u.times;
-          looked_up = made;
-          keeps = same ∙ is;
-          read = u.read;
-          timed = u.timed;
-          stands = subst (λ ms. Stands (updated by_identity 1 ms [] one_view (Took [] ∷ [])) now) discovered.0
-              (subst (λ settings. Stands (updated by_identity 1 u.members settings one_view (Took [] ∷ [])) now) discovered.1
-              (subst (λ i. Stands (updated by_identity i u.members u.settings one_view (Took [] ∷ [])) now) id
-              (u.stands by_identity one_view registry (Took [] ∷ []) stands)));
-          registry = subst (λ ms. IsRegistryAfter gives by_identity (registry_updated by_identity 1 ms [] one_view) after) discovered.0
-              (subst (λ i. IsRegistryAfter gives by_identity (registry_updated by_identity i u.members [] one_view) after) id
-              (u.registry by_identity one_view registry (Took [] ∷ []) stands));
-        }
 
 -- what holds where a call succeeds or is refused
 pub on-ok : {A E P : Type 0} (r : Result A E) (a : A) → r ≡ Ok a → OnOk r P → P

@@ -16,8 +16,6 @@ use Rattle.lb_health_view.specs.ViewEvents as view
 use Rattle.lb_health_view.specs.Views.{IsViewAfter}
 
 pub data Event : Type 0 where
-  -- a view with this past is taken, and a selector of its newest membership is served
-  Took : List view.ViewEvent → Event
   -- another membership with the cells of its backends, whose selector is served from then on
   Updated : List Member → List (Member × ℕ) → Event
   -- a backend is enabled or disabled
@@ -31,7 +29,6 @@ History = List Event
 -- what happens to the view
 abbrev pub view_events : History → List view.ViewEvent
 view_events [] = []
-view_events (Took views ∷ e) = views
 view_events (Updated ms cells ∷ e) = view.Shown ms cells ∷ view_events e
 view_events (Set b on ∷ e) = view.Set b on ∷ view_events e
 view_events (Drew n ∷ e) = view_events e
@@ -43,7 +40,6 @@ members_now e = view.membership_after (view_events e)
 -- the next ticket of the served selector, whose counter began at 0
 abbrev pub tickets_after : History → ℕ
 tickets_after [] = 0
-tickets_after (Took views ∷ e) = 0
 tickets_after (Updated ms cells ∷ e) = 0
 tickets_after (Set b on ∷ e) = tickets_after e
 tickets_after (Drew n ∷ e) = n

@@ -1,6 +1,6 @@
 //! A discovery with one selector, which an update builds: what is served is always the newest generation.
 ghost use Rattle.std.specs.Prelude.{◌≡◌, ◌↔◌, ◌≤◌, ◌+◌, ◌^◌, ◌∷◌, ◌⊎◌, [], ℕ, List, Ok, Err, None, Some, unwrap_or, IfOk};
-ghost use Rattle.std.specs.Prelude.{IfErr, IsErrOf, IsSome, OnOk, OnErr};
+ghost use Rattle.std.specs.Prelude.{IfErr, IsErrOf, OnOk, OnErr};
 ghost use Rattle.std.specs.Borrow.{Bor};
 ghost use Rattle.std.specs.Iterator.{Drains, IsFinite};
 ghost use Rattle.lb_select_base.specs.Backends.{Member};
@@ -15,13 +15,12 @@ ghost use Rattle.lb_balancer_core.specs.Balancer.{After, Drew, Judges, Stands, v
 ghost use Rattle.lb_balancer_core.specs.BalancerUpdates.{IsUpdated, IsRefusal};
 ghost use Rattle.lb_balancer_core.specs.Texts.{IsOfTextsIn, IsTextsRefusalIn, one_more};
 
+use crate::lent::LentBackends;
 use crate::served::Served;
 use crate::timings::UpdateTimings;
-use lb_health_core::health_check::HealthCheck;
 use lb_health_core::keys::KeyRule;
 use lb_health_core::registry::Registry;
 use lb_health_view::discovery::{DiscoverySource, ServiceDiscovery, Static};
-use lb_health_view::registry::HealthRegistry;
 use lb_select_base::backend::Backend;
 use lb_select_base::moments::MomentSource;
 use lb_select_base::refusal::Refusal;
@@ -266,18 +265,19 @@ impl<S: BackendSelection, G: Rng + Drop, D: ServiceDiscovery + Drop> LoadBalance
         registry.remove_view(self.served.id());
     }
 
-    /// Sets the check of the borrowed registry.
-    ///
-    /// Refused `HealthCheckSet` where one is set, which stays.
-    pub fn set_health_check<R: KeyRule + Drop, C: HealthCheck + Drop>(
-        &self,
-        registry: &mut HealthRegistry<R, C>,
-        check: C,
-    ) -> Result<(), Refusal>
-        ensures set { registry.old.check ≡ None → (result ≡ Ok tt) × (registry.new ≡ record registry.old { check = Some check }) }
-        ensures refused { IsSome registry.old.check → (result ≡ Err Refusal.HealthCheckSet) × (registry.new ≡ registry.old) }
+    /// Returns a borrow of the backends with the registry: readings, their flags and the checks.
+    pub fn backends<'a, 'x, R: KeyRule + Drop>(
+        &'a mut self,
+        registry: &'x mut Registry<R>,
+    ) -> LentBackends<'a, 'x, S, G, D, R>
+        ensures same_references { (result.balancer.ghost_name ≡ self.entry.ghost_name)
+            × (result.registry.ghost_name ≡ registry.entry.ghost_name) }
+        ensures same { (result.balancer.now ≡ self.old) × (result.registry.now ≡ registry.old) }
     {
-        registry.set_health_check(check)
+        LentBackends {
+            balancer: self,
+            registry,
+        }
     }
 
     /// Returns the newest generation, which is the served one; 0 before the first membership.

@@ -1,6 +1,6 @@
 //! A discovery with a group of slots, each of which serves a selector of its own that is rebuilt apart from an update.
 ghost use Rattle.std.specs.Prelude.{◌≡◌, ◌↔◌, ◌<◌, ◌≤◌, ◌+◌, ◌^◌, ◌∷◌, [], ℕ, List, length, map, Ok, Err, Some, None};
-ghost use Rattle.std.specs.Prelude.{IfOk, IfErr, IsErrOf, IsSome, IsTrue, OnOk, OnErr};
+ghost use Rattle.std.specs.Prelude.{IfOk, IfErr, IsErrOf, IsTrue, OnOk, OnErr};
 ghost use Rattle.lb_select_base.specs.Backends.{Member};
 ghost use Rattle.lb_select_base.specs.Loads.{SetsLoad, load_in};
 ghost use Rattle.lb_select_base.specs.Refusals.{least, memory_apart};
@@ -17,11 +17,9 @@ ghost use Rattle.lb_balancer_core.specs.Timings.{last_timing};
 
 use crate::lent::LentGroupBackends;
 use crate::timings::{SelectorUpdateTimings, UpdateTimings};
-use lb_health_core::health_check::HealthCheck;
 use lb_health_core::keys::KeyRule;
 use lb_health_core::registry::Registry;
 use lb_health_view::discovery::{DiscoverySource, ServiceDiscovery};
-use lb_health_view::registry::HealthRegistry;
 use lb_rebuild_core::answers::Selection;
 use lb_rebuild_core::gate::GateCore;
 use lb_rebuild_core::group::GroupCore;
@@ -306,33 +304,19 @@ impl<S: BackendSelection, D: ServiceDiscovery + Drop> LoadBalancerGroupCore<S, D
         Some(counts.failed)
     }
 
-    /// Sets the check of the borrowed registry.
-    ///
-    /// Refused `HealthCheckSet` where one is set, which stays.
-    pub fn set_health_check<R: KeyRule + Drop, C: HealthCheck + Drop>(
-        &self,
-        registry: &mut HealthRegistry<R, C>,
-        check: C,
-    ) -> Result<(), Refusal>
-        ensures set { registry.old.check ≡ None → (result ≡ Ok tt) × (registry.new ≡ record registry.old { check = Some check }) }
-        ensures refused { IsSome registry.old.check → (result ≡ Err Refusal.HealthCheckSet) × (registry.new ≡ registry.old) }
-    {
-        registry.set_health_check(check)
-    }
-
     /// Returns a borrow of the backends with the registry: readings, their flags and the checks.
-    pub fn backends<'a, 'x, R: KeyRule + Drop, C: HealthCheck + Drop>(
+    pub fn backends<'a, 'x, R: KeyRule + Drop>(
         &'a mut self,
-        registry: &'x mut HealthRegistry<R, C>,
-    ) -> LentGroupBackends<'a, 'x, S, D, R, C>
-        requires registry { registry.old.registry.id ≡ self.old.group.registry }
+        registry: &'x mut Registry<R>,
+    ) -> LentGroupBackends<'a, 'x, S, D, R>
+        requires registry { registry.old.id ≡ self.old.group.registry }
         ensures same_references { (result.balancer.ghost_name ≡ self.entry.ghost_name)
-            × (result.health.ghost_name ≡ registry.entry.ghost_name) }
-        ensures same { (result.balancer.now ≡ self.old) × (result.health.now ≡ registry.old) }
+            × (result.registry.ghost_name ≡ registry.entry.ghost_name) }
+        ensures same { (result.balancer.now ≡ self.old) × (result.registry.now ≡ registry.old) }
     {
         LentGroupBackends {
             balancer: self,
-            health: registry,
+            registry,
         }
     }
 

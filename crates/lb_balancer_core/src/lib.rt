@@ -7,7 +7,6 @@ pub mod balancer_core;
 pub mod build;
 pub mod group_core;
 pub mod lent;
-pub mod load_balancer;
 pub mod plain;
 mod plain_calls;
 pub mod port;

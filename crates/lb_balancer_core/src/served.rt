@@ -9,12 +9,12 @@ ghost use Rattle.lb_select_base.specs.Loads.{SetsLoad, load_in};
 ghost use Rattle.lb_select_base.specs.Memberships.{same_members};
 ghost use Rattle.lb_health_core.specs.Registry.{IsRegistryAfter};
 ghost use Rattle.lb_health_core.specs.RegistryEvents.{Event, Applied, Registered, registered_after};
-ghost use Rattle.lb_health_view.specs.Views.{IsFounded, IsViewAfter};
+ghost use Rattle.lb_health_view.specs.Views.{IsViewAfter};
 ghost use Rattle.lb_health_view.specs.RegistrySide.{registry_updated, settings_of};
-ghost use Rattle.lb_health_view.specs.ViewEvents.{ViewEvent, generation_after, membership_after};
+ghost use Rattle.lb_health_view.specs.ViewEvents.{ViewEvent, generation_after};
 ghost use Rattle.lb_rebuild_core.specs.GroupCalls.{AcceptsBy, IsMakingRefusal};
 ghost use Rattle.lb_balancer_core.specs.Choices.{Chooses};
-ghost use Rattle.lb_balancer_core.specs.Balancer.{After, Drew, History, IsJudged, Judges, Set, Stands, Took, members_now, update_cause};
+ghost use Rattle.lb_balancer_core.specs.Balancer.{After, Drew, History, IsJudged, Judges, Set, Stands, members_now, update_cause};
 ghost use Rattle.lb_balancer_core.specs.Balancer.{updated, view_cause, view_events};
 ghost use Rattle.lb_balancer_core.specs.Timings.{Reads};
 
@@ -116,29 +116,6 @@ impl<S: BackendSelection, G: Rng + Drop> Served<S, G> {
             Err(refusal) => return Err(refusal),
         };
         let view = ViewCore::register(alloc, registry)?;
-        Ok(Served {
-            view,
-            config,
-            selector,
-            words: CoreWords::new(generator),
-        })
-    }
-
-    // This view, with a selector over its newest membership: by this configuration, or by the default one. It is refused for the
-    // cause for which that gives no selector, and for memory only where there is none.
-    pub(crate) fn over(
-        alloc: Global,
-        view: ViewCore,
-        config: Option<S::Config>,
-        generator: G,
-    ) -> Result<Served<S, G>, Refusal>
-        requires { IsFounded view }
-        ensures stands { (views : List ViewEvent) → IsViewAfter views view
-            → Refuses (S.refusal (membership_after views) (unwrap_or config S.default_config)) (Stands (Took views ∷ [])) result }
-        ensures parts { IfOk result (λ v. (v.view ≡ view) × (v.config ≡ unwrap_or config S.default_config)
-            × (v.words.generator ≡ generator) × ((m : Member) → load_in v.words.loads m ≡ 0)) }
-    {
-        let selector = selector_of::<S>(alloc, view.members(), &config)?;
         Ok(Served {
             view,
             config,
@@ -251,16 +228,6 @@ impl<S: BackendSelection, G: Rng + Drop> Served<S, G> {
         ensures id { self.new.view.id ≡ self.old.view.id }
     {
         self.view.set_enable(backend, enabled);
-    }
-
-    /// Returns what is served with this generator, whose words are its random words from now on.
-    pub fn with_generator(self, generator: G) -> Served<S, G>
-        ensures same { result ≡ record self { words = record self.words { generator = generator } } }
-        ensures stands { After self (λ e. Stands e result) }
-    {
-        let mut served = self;
-        served.words.generator = generator;
-        served
     }
 
     /// Sets the load of a backend's identity.

@@ -4,11 +4,9 @@
 pub use lb_balancer_core::balancer_core::LoadBalancerCore;
 pub use lb_balancer_core::group_core::LoadBalancerGroupCore;
 pub use lb_balancer_core::lent::{LentBackends, LentGroupBackends};
-pub use lb_balancer_core::load_balancer::LoadBalancer;
 pub use lb_balancer_core::served::Served;
 pub use lb_health::{
-    BackendView, Backends, BackendsParts, Health, HealthRegistry, Registry, RegistryCore, Target,
-    ViewCore, registry_laws, view_laws,
+    Health, Registry, RegistryCore, Target, ViewCore, registry_laws, run_health_check, view_laws,
 };
 pub use lb_rebuild::answers::{Ask, Counts, Publication, Selection, Timing};
 pub use lb_rebuild::board::{Board, WritingPass};

@@ -6,7 +6,7 @@ use Rattle.lb_health_core.specs.Registry.{IsRegistryAfter}
 use Rattle.lb_health_core.specs.RegistryEvents.{Updated, Applied, cells_given, has_view, views_after}
 use Rattle.lb_health_view.specs.RegistrySide.{registry_updated, settings_of, view_updated}
 use Rattle.lb_health_view.specs.Views.{IsViewAfter}
-use Rattle.lb_balancer_core.specs.Texts.{one_view}
+use Rattle.lb_balancer.specs.Texts.{one_view}
 use Rattle.lb_balancer.proofs.FirstViews.{first-members, first-refused, registers}
 use Rattle.lb_balancer.proofs.making.first_served.Goals as goal
 

@@ -4,7 +4,7 @@ use Rattle.std.specs.Prelude.{if◌then◌else◌}
 use Rattle.lb_select_base.specs.Memberships.{same_members}
 use Rattle.lb_health_core.specs.Keys.{by_identity}
 use Rattle.lb_health_view.specs.RegistrySide.{view_updated}
-use Rattle.lb_balancer_core.specs.Texts.{one_view}
+use Rattle.lb_balancer.specs.Texts.{one_view}
 use Rattle.lb_balancer.proofs.OfTexts.{build-refused, reads-around, view-refused}
 use Rattle.lb_balancer.specs.History.{BalancerValue}
 use Rattle.lb_balancer.proofs.Served.{first-discovered, first-generation}
