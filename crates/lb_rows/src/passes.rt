@@ -3,12 +3,10 @@
 use crate::server_tables::{By, Pass};
 use crate::servers::{backend_at, backend_at_closed_port};
 use lb_health_core::health_check::{HealthCheck, HealthObserve, IdentitySummary};
-use lb_health_core::keys::{ByNumber, Rule};
 use lb_health_core::registry::RegistryCore;
 use lb_health_http::{AcceptStatus, HttpHealthCheck, TcpHealthCheck};
-use lb_health_view::backends::Backends;
-use lb_health_view::discovery::{DiscoverySource, Static};
-use lb_health_view::registry::HealthRegistry;
+use lb_health_view::passes::run_health_check;
+use lb_health_view::view::{Settings, ViewCore};
 use lb_select_base::backend::Backend;
 use lb_select_base::refusal::Refusal;
 use log::kv::Source;
@@ -181,50 +179,55 @@ fn passes<R: Net<Stream = TcpStream> + Clock + AllocGlobal>(
     match row.by {
         By::Tcp => {
             let check = TcpHealthCheck::new(rt).with_callbacks(Some(observer), IdentitySummary);
-            passes_of(row.starts_healthy, flips, backend, check, alloc)
+            passes_of(row.starts_healthy, flips, backend, &check, alloc)
         }
         By::Http | By::HttpMoved => {
             let check = HttpHealthCheck::new(alloc, rt, "h")?;
             let check = check.with_callbacks(None::<AcceptStatus>, Some(observer), IdentitySummary);
-            passes_of(row.starts_healthy, flips, backend, check, alloc)
+            passes_of(row.starts_healthy, flips, backend, &check, alloc)
         }
     }
 }
 
 // Runs both passes of the check over a view of that one backend. What owns the view makes one call.
-fn passes_of<L: Log, C: HealthCheck + Drop>(
+fn passes_of<L: Log, C: HealthCheck>(
     starts_healthy: bool,
     log: &L,
     backend: &Backend,
-    check: C,
+    check: &C,
     alloc: Global,
 ) -> Result<[bool; 3], Refusal> {
-    // The view has a boxed rule of keys in its type, so the function that makes it calls what borrows it.
-    let mut set = BTreeSet::new(alloc);
-    set.insert(backend.clone()?)?;
-    let source: DiscoverySource<Static> = DiscoverySource::Static(Static::new(set));
-    let registry = HealthRegistry::over(if starts_healthy {
+    let mut registry = if starts_healthy {
         RegistryCore::new(alloc)
     } else {
         RegistryCore::new(alloc).start_unhealthy()
-    });
-    let mut backends = Backends::new_with_health_registry(alloc, source, registry)?;
-    run_passes(log, alloc, &mut backends, backend, check)
+    };
+    let mut view = ViewCore::register(alloc, &mut registry)?;
+    run_passes(log, alloc, &mut registry, &mut view, backend, check)
 }
 
-// Sets the check, updates the view and runs two passes; whether the backend is ready before them and after each.
-fn run_passes<L: Log, C: HealthCheck + Drop>(
+// Updates the view and runs two passes; whether the backend is ready before them and after each.
+fn run_passes<L: Log, C: HealthCheck>(
     log: &L,
     alloc: Global,
-    backends: &mut Backends<Static, Rule<ByNumber>, C>,
+    registry: &mut RegistryCore,
+    view: &mut ViewCore,
     backend: &Backend,
-    check: C,
+    check: &C,
 ) -> Result<[bool; 3], Refusal> {
-    backends.set_health_check(check)?;
-    backends.update(alloc, |lent: &BTreeSet<Backend>| lent.len())?;
-    let before = backends.ready(backend);
-    backends.run_health_check(log, alloc)?;
-    let once = backends.ready(backend);
-    backends.run_health_check(log, alloc)?;
-    Ok([before, once, backends.ready(backend)])
+    let mut set = BTreeSet::new(alloc);
+    set.insert(backend.clone()?)?;
+    let settings = Settings::new(alloc);
+    view.update(
+        alloc,
+        registry,
+        set,
+        settings,
+        |lent: &BTreeSet<Backend>| lent.len(),
+    )?;
+    let before = view.ready(registry, backend);
+    run_health_check(log, alloc, registry, check)?;
+    let once = view.ready(registry, backend);
+    run_health_check(log, alloc, registry, check)?;
+    Ok([before, once, view.ready(registry, backend)])
 }

@@ -1,17 +1,16 @@
 //! Rows of balancers: one of texts that selects by loads, and one at random whose discovery goes on with each update.
-//! Calls borrow a balancer.
+//! Calls borrow a balancer and its registry.
 ghost use Rattle.std.specs.Prelude.{⊤};
 
 use crate::asserted::assert_same;
 use crate::balance::lent::disable;
 use crate::selection::fixtures::set_of;
 use crate::told::{Answer, DONE, NO, Told, YES, is_at};
-use lb_balancer_core::load_balancer::LoadBalancer;
+use lb_balancer_core::balancer_core::LoadBalancerCore;
 use lb_balancer_core::timings::UpdateTimings;
 use lb_health_core::error::CheckError;
 use lb_health_core::health_check::HealthCheck;
-use lb_health_core::keys::{ByNumber, Rule};
-use lb_health_view::backends::Backends;
+use lb_health_core::registry::RegistryCore;
 use lb_health_view::discovery::{Discovered, DiscoverySource, ServiceDiscovery};
 use lb_health_view::view::Settings;
 use lb_select::least::LeastConnections;
@@ -132,6 +131,8 @@ enum Call {
     /// An update by these moments; how many of them are not read.
     Update(&'static [u128]),
     Generation,
+    /// The generation that is served.
+    ServedGeneration,
     CountMembers,
     LastTiming,
     /// Whether the backend of weight 1 at that address is ready.
@@ -144,43 +145,65 @@ enum Call {
     SelectsFirst,
     SetLoad(&'static str, u64),
     Disable(&'static str),
-    SetCheck,
+    /// A pass of a check that finds every backend down.
     RunChecks,
+    /// Marks the view for removal from the registry.
+    Leave,
+    CountTargets,
 }
 
-type Balancer<S, D> = LoadBalancer<S, D, Rule<ByNumber>, Down>;
+type Balancer<S, D> = LoadBalancerCore<S, Pcg64, D>;
 
 // Makes the call.
 fn answer<S: BackendSelection, D: ServiceDiscovery + Drop>(
     alloc: Global,
     balancer: &mut Balancer<S, D>,
+    registry: &mut RegistryCore,
     call: Call,
     log: &impl Log,
 ) -> Answer {
     match call {
-        Call::Update(moments) => update(alloc, balancer, moments),
-        Call::SelectsFirst => selects_first(alloc, balancer),
+        Call::Update(moments) => update(alloc, balancer, registry, moments),
+        Call::SelectsFirst => selects_first(alloc, balancer, registry),
         Call::Selects(limit, wanted) => {
-            let found = balancer.select(alloc, b"k", limit)?;
+            let found = balancer.select(alloc, registry, b"k", limit)?;
             Ok(Told::Flag(is_at(alloc, &found, wanted)?))
         }
-        Call::SetCheck => {
-            balancer.set_health_check(Down)?;
-            DONE
-        }
-        Call::RunChecks => {
-            balancer.backends().run_health_check(log, alloc)?;
-            DONE
-        }
         Call::LastTiming => Ok(Told::Took(balancer.last_update_timing())),
-        Call::Generation => Ok(Told::Number(balancer.backends().generation())),
-        Call::CountMembers => Ok(Told::Length(balancer.backends().get_backend()?.len())),
+        Call::ServedGeneration => Ok(Told::Number(balancer.backend_generation())),
+        Call::Leave => {
+            balancer.leave(registry);
+            DONE
+        }
+        Call::CountTargets => Ok(Told::Length(registry.target_count(alloc)?)),
+        Call::Generation | Call::CountMembers | Call::RunChecks => {
+            answer_of_backends(alloc, balancer, registry, call, log)
+        }
         Call::IsReady(address)
         | Call::SelectsAny(address)
         | Call::SetLoad(address, _)
         | Call::Disable(address) => {
             let backend = Backend::new(alloc, address)?;
-            answer_of(alloc, balancer, call, &backend)
+            answer_of(alloc, balancer, registry, call, &backend)
+        }
+    }
+}
+
+// Makes a call of the borrowed backends.
+fn answer_of_backends<S: BackendSelection, D: ServiceDiscovery + Drop>(
+    alloc: Global,
+    balancer: &mut Balancer<S, D>,
+    registry: &mut RegistryCore,
+    call: Call,
+    log: &impl Log,
+) -> Answer {
+    let mut backends = balancer.backends(registry);
+    match call {
+        Call::Generation => Ok(Told::Number(backends.generation())),
+        Call::CountMembers => Ok(Told::Length(backends.get_backend()?.len())),
+        _ => {
+            backends.run_health_check(log, alloc, &Down)?;
+            DONE
         }
     }
 }
@@ -189,14 +212,15 @@ fn answer<S: BackendSelection, D: ServiceDiscovery + Drop>(
 fn answer_of<S: BackendSelection, D: ServiceDiscovery + Drop>(
     alloc: Global,
     balancer: &mut Balancer<S, D>,
+    registry: &mut RegistryCore,
     call: Call,
     backend: &Backend,
 ) -> Answer {
     match call {
-        Call::IsReady(_) => Ok(Told::Flag(balancer.backends().ready(backend))),
+        Call::IsReady(_) => Ok(Told::Flag(balancer.backends(registry).ready(backend))),
         Call::SelectsAny(_) => {
             let any = |_backend: &Backend, _ready: bool| -> bool { true };
-            let found = balancer.select_with(alloc, b"k", 2, &any)?;
+            let found = balancer.select_with(alloc, registry, b"k", 2, &any)?;
             Ok(Told::Flag(found.as_ref() == Some(backend)))
         }
         Call::SetLoad(_, load) => {
@@ -204,7 +228,7 @@ fn answer_of<S: BackendSelection, D: ServiceDiscovery + Drop>(
             DONE
         }
         _ => {
-            disable(balancer, backend);
+            disable(balancer, registry, backend);
             DONE
         }
     }
@@ -213,10 +237,11 @@ fn answer_of<S: BackendSelection, D: ServiceDiscovery + Drop>(
 fn update<S: BackendSelection, D: ServiceDiscovery + Drop>(
     alloc: Global,
     balancer: &mut Balancer<S, D>,
+    registry: &mut RegistryCore,
     moments: &[u128],
 ) -> Answer {
     let mut clock = Moments { left: moments };
-    let updated = balancer.update(alloc, &mut clock);
+    let updated = balancer.update(alloc, registry, &mut clock);
     let left = clock.left.len();
     if left > 0 {
         return Ok(Told::Length(left));
@@ -228,8 +253,9 @@ fn update<S: BackendSelection, D: ServiceDiscovery + Drop>(
 fn selects_first<S: BackendSelection, D: ServiceDiscovery + Drop>(
     alloc: Global,
     balancer: &mut Balancer<S, D>,
+    registry: &RegistryCore,
 ) -> Answer {
-    let found = balancer.select(alloc, b"k", 1)?;
+    let found = balancer.select(alloc, registry, b"k", 1)?;
     let is_first = is_at(alloc, &found, FIRST)?;
     Ok(Told::Flag(is_first && is_noted(&found)))
 }
@@ -251,11 +277,17 @@ type Calls = &'static [(Call, Answer)];
 fn plays<S: BackendSelection, D: ServiceDiscovery + Drop>(
     alloc: Global,
     balancer: &mut Balancer<S, D>,
+    registry: &mut RegistryCore,
     calls: Calls,
     rt: &(impl Abort + Log),
 ) {
     for (at, (call, wanted)) in calls.iter().enumerate() {
-        assert_same(rt, &answer(alloc, balancer, *call, rt), wanted, &at);
+        assert_same(
+            rt,
+            &answer(alloc, balancer, registry, *call, rt),
+            wanted,
+            &at,
+        );
     }
 }
 
@@ -276,9 +308,10 @@ const AT_ONCE: Answer = Ok(Told::Took(Some(UpdateTimings {
 })));
 
 // It was updated once. The second one is selected once the first one has a load; once it is disabled, only where each one is accepted.
-// One check is set, and after its pass no backend is ready.
+// After the pass of a check no backend is ready, and the two are targets until the view leaves.
 const OF_TEXTS: Calls = &[
     (Call::Generation, Ok(Told::Number(1))),
+    (Call::ServedGeneration, Ok(Told::Number(1))),
     (Call::CountMembers, Ok(Told::Length(2))),
     (Call::LastTiming, TOOK),
     (Call::IsReady("1.0.0.1:80"), YES),
@@ -291,10 +324,11 @@ const OF_TEXTS: Calls = &[
     (Call::IsReady("1.1.1.1:80"), NO),
     (Call::Selects(2, FIRST), YES),
     (Call::SelectsAny("1.1.1.1:80"), YES),
-    (Call::SetCheck, DONE),
-    (Call::SetCheck, Err(Refusal::HealthCheckSet)),
     (Call::RunChecks, DONE),
     (Call::Selects(2, None), YES),
+    (Call::CountTargets, Ok(Told::Length(2))),
+    (Call::Leave, DONE),
+    (Call::CountTargets, Ok(Told::Length(0))),
 ];
 
 #[test]
@@ -304,13 +338,16 @@ fn a_balancer_of_texts(rt: HostRuntime) -> Result<(), Fail> {
     let mut clock = Moments {
         left: &[0, 10, 14, 20],
     };
-    let mut balancer: Balancer<LeastConnections, Rows> = LoadBalancer::try_from_iter(
+    let mut registry = RegistryCore::new(alloc);
+    let mut balancer: Balancer<LeastConnections, Rows> = LoadBalancerCore::try_from_iter(
         alloc,
+        &mut registry,
         &rt,
         texts.iter().copied(),
         &mut clock,
+        Pcg64::new(1, 2),
     )?;
-    plays(alloc, &mut balancer, OF_TEXTS, &rt);
+    plays(alloc, &mut balancer, &mut registry, OF_TEXTS, &rt);
     Ok(())
 }
 
@@ -358,16 +395,17 @@ const OF_ROWS: Calls = &[
     (Call::Generation, Ok(Told::Number(2))),
 ];
 
-// A balancer of the rows whose random words are those of a generator that it is given.
-fn of_rows(alloc: Global) -> Result<Balancer<Random, Rows>, Refusal> {
-    let backends = Backends::new(alloc, DiscoverySource::Boxed(Rows::from(0)))?;
-    let balancer = LoadBalancer::from_backends_with_config(alloc, backends, Some(()))?;
-    Ok(balancer.with_generator(Pcg64::new(3, 4)))
-}
-
 #[test]
 fn updates_by_rows(rt: HostRuntime) -> Result<(), Fail> {
-    let mut balancer = of_rows(rt.alloc())?;
-    plays(rt.alloc(), &mut balancer, OF_ROWS, &rt);
+    let alloc = rt.alloc();
+    let mut registry = RegistryCore::new(alloc);
+    let mut balancer: Balancer<Random, Rows> = LoadBalancerCore::from_backends_with_config(
+        alloc,
+        &mut registry,
+        DiscoverySource::Boxed(Rows::from(0)),
+        Some(()),
+        Pcg64::new(3, 4),
+    )?;
+    plays(alloc, &mut balancer, &mut registry, OF_ROWS, &rt);
     Ok(())
 }

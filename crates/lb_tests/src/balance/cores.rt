@@ -1,8 +1,7 @@
-//! Plain states whose registry and gate are their caller's: a balancer of texts, and a group that gets another gate.
+//! A plain group that gets another gate.
 use crate::asserted::assert_same;
 use crate::balance::balancers::Rows;
-use crate::told::{Answer, Ticks, Told, YES, is_at};
-use lb_balancer_core::balancer_core::LoadBalancerCore;
+use crate::told::Ticks;
 use lb_balancer_core::group_core::LoadBalancerGroupCore;
 use lb_health_core::registry::RegistryCore;
 use lb_health_view::discovery::DiscoverySource;
@@ -10,40 +9,10 @@ use lb_rebuild_core::answers::Ask;
 use lb_rebuild_core::endings::end_job;
 use lb_rebuild_core::gate::GateCore;
 use lb_select::least::LeastConnections;
-use lb_select_base::backend::Backend;
 use lb_select_base::refusal::Refusal;
 use lb_select_base::walk::BackendSelection;
-use rand_pcg::Pcg64;
 use std::alloc::Global;
-use std::net::Net;
 use std::test::Fail;
-
-// What a balancer of two texts tells: whether the second is selected once the first has a load, its generation, and how many targets are
-// left once it left.
-fn told_by_texts<T: Net>(net: &T, alloc: Global) -> Result<[Answer; 3], Refusal> {
-    let mut registry = RegistryCore::new(alloc);
-    let mut clock = Ticks { next: 0 };
-    let texts = ["1.1.1.1:80", "1.0.0.1:80"];
-    let mut balancer: LoadBalancerCore<LeastConnections, Pcg64, Rows> =
-        LoadBalancerCore::try_from_iter(
-            alloc,
-            &mut registry,
-            net,
-            texts.iter().copied(),
-            &mut clock,
-            Pcg64::new(1, 2),
-        )?;
-    balancer.set_load(alloc, &Backend::new(alloc, "1.0.0.1:80")?, 5)?;
-    let found = balancer.select(alloc, &registry, b"k", 2)?;
-    let is_second = is_at(alloc, &found, Some("1.1.1.1:80"))?;
-    let generation = balancer.backend_generation();
-    balancer.leave(&mut registry);
-    Ok([
-        Ok(Told::Flag(is_second)),
-        Ok(Told::Number(generation)),
-        Ok(Told::Length(registry.target_count(alloc)?)),
-    ])
-}
 
 // Whether the gate's permit is out.
 fn is_busy<S: BackendSelection>(ask: Ask<S>) -> bool {
@@ -90,13 +59,7 @@ fn asks_another_gate(alloc: Global) -> Result<bool, Refusal> {
 }
 
 #[test]
-fn cores_of_texts_and_gates(rt: HostRuntime) -> Result<(), Fail> {
-    let alloc = rt.alloc();
-    let told = told_by_texts(&rt, alloc)?;
-    let wanted: [Answer; 3] = [YES, Ok(Told::Number(1)), Ok(Told::Length(0))];
-    for (at, (told, wanted)) in told.iter().zip(wanted.iter()).enumerate() {
-        assert_same(&rt, told, wanted, &at);
-    }
-    assert_same(&rt, &asks_another_gate(alloc)?, &true, &"another gate");
+fn cores_of_gates(rt: HostRuntime) -> Result<(), Fail> {
+    assert_same(&rt, &asks_another_gate(rt.alloc())?, &true, &"another gate");
     Ok(())
 }

@@ -1,13 +1,14 @@
-//! Backends with a check: a discovery that answers a fault, what a pass asks and tells the check, and what it writes to the log.
-//! No contract sees these. One row after another borrows the backends.
+//! Passes of a check over a view: a discovery that answers a fault, what a pass asks and tells the check, and what it writes to the log.
+//! No contract sees these. One row after another borrows the view with its registry and its check.
 use crate::asserted::{assert_row, assert_same};
 use crate::selection::fixtures::set_of;
+use crate::told::always;
 use lb_health_core::error::CheckError;
 use lb_health_core::health_check::{HealthCheck, identity_summary};
-use lb_health_core::keys::{ByNumber, Number, Rule};
-use lb_health_view::backends::Backends;
+use lb_health_core::keys::{ByNumber, Number};
+use lb_health_core::registry::RegistryCore;
 use lb_health_view::discovery::{Discovered, DiscoverySource, ServiceDiscovery};
-use lb_health_view::registry::HealthRegistry;
+use lb_health_view::passes::run_health_check;
 use lb_health_view::view::{Settings, ViewCore};
 use lb_select_base::backend::{Backend, InetAddr, SocketAddr};
 use lb_select_base::refusal::Refusal;
@@ -105,46 +106,90 @@ fn new_check(counts: &Rc<Counts>, silent: bool) -> Result<Counting, Refusal> {
     Ok(Counting { counts, silent })
 }
 
-type Health = HealthRegistry<Rule<ByNumber>, Counting>;
-
-type Counted = Backends<Pair, Rule<ByNumber>, Counting>;
-
-// Backends whose discovery and whose check count there.
-fn counted(alloc: Global, counts: &Rc<Counts>) -> Result<Counted, Refusal> {
-    let pair = Pair {
-        counts: counts.clone()?,
-    };
-    Backends::new_with_health_registry(
+/// Updates a view by what its discovery finds; how many members its callback was passed, or that it wasn't called.
+pub(crate) fn update_by<D: ServiceDiscovery>(
+    alloc: Global,
+    source: &DiscoverySource<D>,
+    registry: &mut RegistryCore,
+    view: &mut ViewCore,
+) -> Result<Option<usize>, Refusal> {
+    let (backends, settings) = source.discover(alloc)?;
+    let updated = view.update(
         alloc,
-        DiscoverySource::Boxed(pair),
-        HealthRegistry::new(alloc),
-    )
+        registry,
+        backends,
+        settings,
+        |lent: &BTreeSet<Backend>| lent.len(),
+    )?;
+    Ok(updated)
 }
 
-// How many members the newest generation has.
-fn count_members(backends: &Counted) -> Result<usize, Refusal> {
-    Ok(backends.get_backend()?.len())
+/// A view of one discovery in a registry of its own, and the check of its targets.
+#[derive(Drop)]
+struct Checked {
+    source: DiscoverySource<Pair>,
+    registry: RegistryCore,
+    view: ViewCore,
+    check: Counting,
 }
 
-// Updates the backends; then their generation, and how many members it has.
-fn updated(alloc: Global, backends: &mut Counted) -> (Result<Option<usize>, Refusal>, u64) {
-    let updated = backends.update(alloc, |lent: &BTreeSet<Backend>| lent.len());
-    (updated, backends.generation())
+impl Checked {
+    // A view whose discovery and whose check count there.
+    fn new(alloc: Global, counts: &Rc<Counts>, silent: bool) -> Result<Checked, Refusal> {
+        let pair = Pair {
+            counts: counts.clone()?,
+        };
+        let check = new_check(counts, silent)?;
+        let mut registry = RegistryCore::new(alloc);
+        let view = ViewCore::register(alloc, &mut registry)?;
+        Ok(Checked {
+            source: DiscoverySource::Boxed(pair),
+            registry,
+            view,
+            check,
+        })
+    }
+
+    // Updates the view; then its generation.
+    fn update(&mut self, alloc: Global) -> (Result<Option<usize>, Refusal>, u64) {
+        let updated = update_by(alloc, &self.source, &mut self.registry, &mut self.view);
+        (updated, self.view.generation())
+    }
+
+    // Checks the targets once.
+    fn run(&mut self, alloc: Global, log: &impl Log) -> Result<(), Refusal> {
+        run_health_check(log, alloc, &mut self.registry, &self.check)
+    }
+
+    // How many targets there are, how many are listed, and how many members the newest generation has.
+    fn count(&mut self, alloc: Global) -> Result<[usize; 3], Refusal> {
+        let count = self.registry.target_count(alloc)?;
+        let listed = self.registry.targets(alloc)?.len();
+        Ok([count, listed, self.view.get_backend()?.len()])
+    }
+
+    // Whether 1.0.0.1:80/1 is ready.
+    fn ready(&self, alloc: Global) -> Result<bool, Refusal> {
+        let backend = Backend::new(alloc, "1.0.0.1:80")?;
+        Ok(self.view.ready(&self.registry, &backend))
+    }
 }
 
-// An update by a discovery that answers a fault is refused, and changes nothing; the next one is not.
-fn fault_is_told(alloc: Global, backends: &mut Counted, counts: &Counts, rt: &impl Abort) {
-    let refused = updated(alloc, backends);
-    let members = count_members(backends);
+// An update by a discovery that answers a fault is refused, and changes nothing: a pass asks nothing then. The next update is not refused.
+fn fault_is_told(alloc: Global, checked: &mut Checked, counts: &Counts, rt: &(impl Abort + Log)) {
+    let refused = checked.update(alloc);
+    let counted = checked.count(alloc);
+    let passed = (checked.run(alloc, rt), counts.asked.get());
+    assert_same(
+        rt,
+        &(counted, passed),
+        &(Ok([0, 0, 0]), (Ok(()), 0)),
+        &"nothing is asked",
+    );
     counts.lost.set(false);
-    let then = updated(alloc, backends);
-    let wanted = ((Err(Refusal::Discovery), 0), Ok(0), (Ok(Some(2)), 1));
-    assert_same(rt, &(refused, members, then), &wanted, &"a fault is told");
-}
-
-// Whether 1.0.0.1:80/1 is ready.
-fn ready(alloc: Global, backends: &Counted) -> Result<bool, Refusal> {
-    Ok(backends.ready(&Backend::new(alloc, "1.0.0.1:80")?))
+    let then = checked.update(alloc);
+    let wanted = ((Err(Refusal::Discovery), 0), (Ok(Some(2)), 1));
+    assert_same(rt, &(refused, then), &wanted, &"a fault is told");
 }
 
 // Whether a pass finds the backend down; how often the check was asked and which reports it got then, and whether the backend is ready. The
@@ -158,16 +203,16 @@ const PASSES: [(bool, u64, u64, bool); 3] = [
 
 fn passes<R: Abort, L: Log>(
     alloc: Global,
-    backends: &mut Counted,
+    checked: &mut Checked,
     counts: &Counts,
     rt: &R,
     log: &L,
 ) {
     for (down, asked, told, healthy) in &PASSES {
         counts.down.set(*down);
-        let passed = backends.run_health_check(log, alloc);
+        let passed = checked.run(alloc, log);
         let counted = (counts.asked.get(), counts.told.get());
-        let found = (passed, ready(alloc, backends), counted);
+        let found = (passed, checked.ready(alloc), counted);
         let wanted = (Ok(()), Ok(*healthy), (*asked, *told));
         assert_same(rt, &found, &wanted, asked);
     }
@@ -183,7 +228,7 @@ fn lines_are(lines: &[String], wanted: &[&str], rt: &impl Abort) {
 // The lines that the passes wrote to the log.
 fn passes_are_logged<R: Abort + Log>(
     alloc: Global,
-    backends: &mut Counted,
+    checked: &mut Checked,
     counts: &Counts,
     wanted: &[&str],
     rt: &R,
@@ -191,7 +236,7 @@ fn passes_are_logged<R: Abort + Log>(
     let sink = Memory::new(alloc);
     passes(
         alloc,
-        backends,
+        checked,
         counts,
         rt,
         &Logged::new(rt, Level::Debug, &sink),
@@ -199,32 +244,25 @@ fn passes_are_logged<R: Abort + Log>(
     lines_are(sink.into_lines().as_slice(), wanted, rt);
 }
 
-fn check_is_set(backends: &mut Counted, counts: &Rc<Counts>, silent: bool) -> Result<(), Refusal> {
-    backends.set_health_check(new_check(counts, silent)?)
-}
-
 // The lines of the passes in the log.
 const LINES: [&str; 2] = [
-    "[WARN  lb_health_view::registry] 1.0.0.1:80/1 becomes unhealthy, Status",
-    "[INFO  lb_health_view::registry] 1.0.0.1:80/1 becomes healthy",
+    "[WARN  lb_health_view::passes] 1.0.0.1:80/1 becomes unhealthy, Status",
+    "[INFO  lb_health_view::passes] 1.0.0.1:80/1 becomes healthy",
 ];
 
-// Plays the rows; `silent` is a check that names no backend, and `lines` are those that its passes write to the log.
+// Plays the rows, whose passes write these lines to the log.
 fn plays<R: Abort + Log>(
     alloc: Global,
-    backends: &mut Counted,
-    counts: &Rc<Counts>,
-    silent: bool,
+    checked: &mut Checked,
+    counts: &Counts,
     lines: &[&str],
     rt: &R,
 ) {
-    fault_is_told(alloc, backends, counts, rt);
-    let set = check_is_set(backends, counts, silent);
-    assert_same(rt, &set, &Ok(()), &"a check is set");
-    passes_are_logged(alloc, backends, counts, lines, rt);
+    fault_is_told(alloc, checked, counts, rt);
+    passes_are_logged(alloc, checked, counts, lines, rt);
 }
 
-// Plays the rows on new backends.
+// Plays the rows on a new view; the passes of a silent check, which names no backend, write nothing.
 fn played<R: Abort + Log>(
     alloc: Global,
     silent: bool,
@@ -232,8 +270,8 @@ fn played<R: Abort + Log>(
     rt: &R,
 ) -> Result<(), Refusal> {
     let counts = new_counts(alloc)?;
-    let mut backends = counted(alloc, &counts)?;
-    plays(alloc, &mut backends, &counts, silent, lines, rt);
+    let mut checked = Checked::new(alloc, &counts, silent)?;
+    plays(alloc, &mut checked, &counts, lines, rt);
     Ok(())
 }
 
@@ -244,90 +282,64 @@ fn passes_of_checks(rt: HostRuntime) {
     assert_same(&rt, &(named, silent), &(Ok(()), Ok(())), &"played");
 }
 
-// How many targets there are, and how many are listed.
-fn targets(alloc: Global, health: &mut Health) -> Result<(usize, usize), Refusal> {
-    let count = health.target_count(alloc)?;
-    Ok((count, health.targets(alloc)?.len()))
-}
-
-// A second check is refused, and without a target the first one is asked nothing.
-fn check_is_set_once(
-    alloc: Global,
-    health: &mut Health,
-    counts: &Rc<Counts>,
-    rt: &(impl Abort + Log),
-) -> Result<(), Refusal> {
-    let first = health.set_health_check(new_check(counts, false)?);
-    let second = health.set_health_check(new_check(counts, true)?);
-    let passed = health.run_health_check(rt, alloc);
-    let found = (first, second, passed, counts.asked.get());
-    let wanted = (Ok(()), Err(Refusal::HealthCheckSet), Ok(()), 0);
-    assert_same(rt, &found, &wanted, &"a check is set once");
-    assert_same(rt, &targets(alloc, health), &Ok((0, 0)), &"targets");
-    Ok(())
-}
-
-#[test]
-fn a_check_is_set_once(rt: HostRuntime) -> Result<(), Fail> {
-    let alloc = rt.alloc();
-    let counts = new_counts(alloc)?;
-    let mut health: Health = HealthRegistry::by_address(alloc).start_unhealthy();
-    check_is_set_once(alloc, &mut health, &counts, &rt)?;
-    Ok(())
-}
-
 // A new view of one backend.
-fn view_of(alloc: Global, health: &mut Health, member: (&str, usize)) -> Result<ViewCore, Refusal> {
-    let set = set_of(alloc, &[member])?;
-    let mut view = ViewCore::register(alloc, &mut health.registry)?;
-    let settings = Settings::new(alloc);
-    view.update(
+fn view_of(
+    alloc: Global,
+    registry: &mut RegistryCore,
+    member: (&str, usize),
+) -> Result<ViewCore, Refusal> {
+    let mut view = ViewCore::register(alloc, registry)?;
+    update_by(
         alloc,
-        &mut health.registry,
-        set,
-        settings,
-        |lent: &BTreeSet<Backend>| lent.len(),
+        &always::<Pair>(alloc, &[member])?,
+        registry,
+        &mut view,
     )?;
     Ok(view)
 }
 
 // Whether the backend of a view is ready.
-fn is_ready(health: &Health, view: &ViewCore) -> bool {
+fn is_ready(registry: &RegistryCore, view: &ViewCore) -> bool {
     view.members()
         .first()
-        .is_some_and(|backend| view.ready(&health.registry, backend))
+        .is_some_and(|backend| view.ready(registry, backend))
 }
 
 // How many targets two views of one number have, what a pass came to, and whether the backend of each is ready: before the first one is
 // disabled, and after.
 type Shared = (Result<usize, Refusal>, Result<(), Refusal>, [bool; 4]);
 
-fn shared(alloc: Global, health: &mut Health, log: &impl Log) -> Result<Shared, Refusal> {
+fn shared(
+    alloc: Global,
+    registry: &mut RegistryCore,
+    check: &Counting,
+    log: &impl Log,
+) -> Result<Shared, Refusal> {
     let light = Backend::new(alloc, "1.0.0.1:80")?;
-    let mut first = view_of(alloc, health, ("1.0.0.1:80", 1))?;
-    let second = view_of(alloc, health, ("2.0.0.1:80", 2))?;
-    let targets = health.target_count(alloc);
-    let passed = health.run_health_check(log, alloc);
-    let (one, other) = (is_ready(health, &first), is_ready(health, &second));
+    let mut first = view_of(alloc, registry, ("1.0.0.1:80", 1))?;
+    let second = view_of(alloc, registry, ("2.0.0.1:80", 2))?;
+    let targets = registry.target_count(alloc);
+    let passed = run_health_check(log, alloc, registry, check);
+    let (one, other) = (is_ready(registry, &first), is_ready(registry, &second));
     first.set_enable(&light, false);
     let ready = [
         one,
         other,
-        is_ready(health, &first),
-        is_ready(health, &second),
+        is_ready(registry, &first),
+        is_ready(registry, &second),
     ];
     Ok((targets, passed, ready))
 }
 
 // The same with a check, and how often that was asked.
-fn checked(
+fn shared_and_asked(
     alloc: Global,
-    health: &mut Health,
+    registry: &mut RegistryCore,
     counts: &Rc<Counts>,
     log: &impl Log,
 ) -> Result<(Shared, u64), Refusal> {
-    health.set_health_check(new_check(counts, false)?)?;
-    let shared = shared(alloc, health, log)?;
+    let check = new_check(counts, false)?;
+    let shared = shared(alloc, registry, &check, log)?;
     Ok((shared, counts.asked.get()))
 }
 
@@ -345,8 +357,8 @@ fn views_share_by_number(rt: HostRuntime) -> Result<(), Fail> {
     let alloc = rt.alloc();
     let counts = new_counts(alloc)?;
     let number: Number = Box::new(alloc, |backend: &Backend| last_byte(backend))?;
-    let mut health: Health = HealthRegistry::with_equivalence(alloc, ByNumber::new(number));
-    let found = checked(alloc, &mut health, &counts, &rt);
+    let mut registry = RegistryCore::with_equivalence(alloc, ByNumber::new(number));
+    let found = shared_and_asked(alloc, &mut registry, &counts, &rt);
     let wanted = ((Ok(1), Ok(()), [true, true, false, true]), 1);
     assert_same(&rt, &found, &Ok(wanted), &"views share by number");
     Ok(())
