@@ -7,9 +7,10 @@ use Rattle.lb_background.specs.declared.event.Action.{Action}
 use Rattle.lb_background.specs.declared.event.Action.TheVariants as to
 use Rattle.lb_background.specs.Schedule.{due, is_idle, next_moment}
 use Rattle.lb_background.specs.Turns.{Plan, RunValue, awaits, has_reached, is_update, is_ready, is_check, is_sleep}
-use Rattle.lb_background.specs.Turns.{at_rest, at_check, at_tell, at_turn, action_at, stage, with_last}
-use Rattle.lb_background.specs.History.{Heard, last, begun, is_start, is_shutdown, state, IsRun, IsAfter}
+use Rattle.lb_background.specs.Turns.{at_rest, at_check, at_tell, at_turn, action_at, stage, noted, with_last}
+use Rattle.lb_background.specs.History.{Heard, heard, last, begun, is_start, is_shutdown, state, IsRun, IsAfter}
 use Rattle.lb_background.proofs.LawLemmas.{falsehood}
+use Rattle.lb_background.proofs.RunLemmas.{stepped}
 use Rattle.lb_background.specs.Driven.{Driven, Told, is_turn}
 
 -- what a run that began never answers
@@ -71,10 +72,13 @@ asks to.WaitTargets is more = absurd (falsehood (sym is))
 asks to.Hold is more = absurd (falsehood (sym is))
 asks to.Return is more = absurd (more refl)
 
--- what a run that began answers, but for the end, is asked of its port
-pub asks_port : (r : RunValue) (h : List Heard) (a : Action) → IsAfter r h → begun h ≡ true → last h ≡ a → a ≢ to.Return
-    → is_turn a ≡ true
-asks_port r h a after b is more = asks a (ap waits (sym is) ∙ never_waits r.plan h after.run b) more
+-- what a step of a run that began answers, but for the end, is a turn's
+pub stepped_asks : (r : RunValue) (now given : ℕ) (e : Event) (h : List Heard) (a : Action) (n : RunValue)
+    → n ≡ with_last (noted r now e) a → a ≡ action_at (noted r now e) (stage r e) given
+    → IsAfter r h → begun (heard now given e a ∷ h) ≡ true → a ≢ to.Return → is_turn a ≡ true
+stepped_asks r now given e h a n is answers after b more =
+    let x = heard now given e a in
+    asks a (never_waits n.plan (x ∷ h) (stepped r now given e h a n is answers after).run b) more
 
 or_true : (a b : Bool) → b ≡ true → (a || b) ≡ true
 or_true true b is = refl

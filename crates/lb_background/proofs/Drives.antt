@@ -6,10 +6,12 @@ use Rattle.lb_background.specs.declared.event.Event.TheVariants as on
 use Rattle.lb_background.specs.declared.event.Action.{Action}
 use Rattle.lb_background.specs.declared.event.Action.TheVariants as to
 use Rattle.lb_background.specs.Turns.{is_ready, is_check, is_sleep, is_update}
-use Rattle.lb_background.specs.History.{Heard, last, begun}
+use Rattle.lb_background.specs.History.{Heard, heard, last, begun}
 use Rattle.lb_background.specs.Services.{ServicePlan, ServiceValue, IsServiceRun, IsServiceAfter, service_answer, service_state}
+use Rattle.lb_background.specs.Services.{service_noted}
 use Rattle.lb_background.specs.Services.{with_answer, opening, rest_until, is_waiting, is_hold}
 use Rattle.lb_background.proofs.LawLemmas.{falsehood}
+use Rattle.lb_background.proofs.ServiceLemmas.{service_stepped}
 use Rattle.lb_background.specs.ServiceDriven.{is_asked}
 
 one_of : (b : Bool) (a c : Action) → is_update a ≡ false → is_update c ≡ false → is_update (if b then a else c) ≡ false
@@ -60,6 +62,10 @@ asks to.WaitTargets is more = refl
 asks to.Hold is more = refl
 asks to.Return is more = absurd (more refl)
 
--- what a service answers that isn't the end is asked of its port
-pub asks_port : (r : ServiceValue) (h : List Heard) (a : Action) → IsServiceAfter r h → last h ≡ a → a ≢ to.Return → is_asked a ≡ true
-asks_port r h a after is more = asks a (ap is_update (sym is) ∙ never_updates r.plan h after.run) more
+-- what a step of a service answers, but for the end, is what a service asks for
+pub service_stepped_asks : (r : ServiceValue) (now given : ℕ) (e : Event) (h : List Heard) (a : Action) (n : ServiceValue)
+    → n ≡ with_answer (service_noted r now e) a → a ≡ service_answer (service_noted r now e) r.begun given e
+    → IsServiceAfter r h → a ≢ to.Return → is_asked a ≡ true
+service_stepped_asks r now given e h a n is answers after more =
+    let x = heard now given e a in
+    asks a (never_updates n.plan (x ∷ h) (service_stepped r now given e h a n is answers after).run) more

@@ -20,10 +20,6 @@ module _ {P : Type 0} (looks : P → Bool → P → Type 0) (acts : P → Action
 abbrev pub Reads : {P : Type 0} → (P → ℕ → P → Type 0) → (P → ℕ → P → Type 0) → P → ℕ → ℕ → P → Type 0
 Reads {P} moments numbers p now number q = (m : P) × moments p now m × numbers m number q
 
--- the moment alone is read
-abbrev pub ReadsMoment : {P : Type 0} → (P → ℕ → P → Type 0) → P → ℕ → ℕ → P → Type 0
-ReadsMoment {P} moments p now number q = moments p now q
-
 -- from one event to the next: the moment and the number that are read after an event, and what is done for an answer
 module _ {P : Type 0} (reads : P → ℕ → ℕ → P → Type 0) (does : P → Action → Event → P → Type 0) where
   -- the next event: the start, and later what came of the last answer
@@ -39,22 +35,26 @@ module _ {P : Type 0} (reads : P → ℕ → ℕ → P → Type 0) (does : P →
   abbrev pub DrivenToEnd : (List Heard → Type 0) → P → P → Type 0
   DrivenToEnd Runs p q = (h : List Heard) × Runs h × (last h ≡ to.Return) × Driven p h q
 
+-- an answer is acted on by one call: an update with what it answers, a pass of checks, the notifier, and the waits for a moment, for
+-- targets and for the end, each with the event that came of it
+module _ {P : Type 0} (updates : P → Result ℕ Refusal → P → Type 0) (checks tells : P → P → Type 0)
+    (sleeps : P → ℕ → Event → P → Type 0) (awaits holds : P → Event → P → Type 0) where
+  abbrev pub Acts : P → Action → Event → P → Type 0
+  Acts p to.Update e q = (r : Result ℕ Refusal) × updates p r q × (e ≡ on.Updated r)
+  Acts p to.Check e q = checks p q × (e ≡ on.Checked)
+  Acts p to.Ready e q = tells p q × (e ≡ on.Told)
+  Acts p (to.SleepUntil moment) e q = sleeps p moment e q
+  Acts p to.WaitTargets e q = awaits p e q
+  Acts p to.Hold e q = holds p e q
+  Acts p to.Return e q = ⊥
+
+-- what a run asks for can be done
+abbrev pub CanDoAll : (Action → Bool) → (Action → Type 0) → Type 0
+CanDoAll asks can_do = (a : Action) → asks a ≡ true → can_do a
+
 -- what a run by turns asks for once it began, but for the end
 abbrev pub is_turn : Action → Bool
 is_turn to.WaitTargets = false
 is_turn to.Hold = false
 is_turn to.Return = false
 is_turn a = true
-
--- an answer of a run by turns is acted on by one call: an update with what it answers, a pass of checks, the notifier, or the sleep until
--- a moment with the event that ends it
-module _ {P : Type 0} (updates : P → Result ℕ Refusal → P → Type 0) (checks tells : P → P → Type 0)
-    (sleeps : P → ℕ → Event → P → Type 0) where
-  abbrev pub TakesTurn : P → Action → Event → P → Type 0
-  TakesTurn p to.Update e q = (r : Result ℕ Refusal) × updates p r q × (e ≡ on.Updated r)
-  TakesTurn p to.Check e q = checks p q × (e ≡ on.Checked)
-  TakesTurn p to.Ready e q = tells p q × (e ≡ on.Told)
-  TakesTurn p (to.SleepUntil moment) e q = sleeps p moment e q
-  TakesTurn p to.WaitTargets e q = ⊥
-  TakesTurn p to.Hold e q = ⊥
-  TakesTurn p to.Return e q = ⊥

@@ -1,29 +1,28 @@
-//! Drives the run of a service over a port, from its start to its end.
-ghost use Rattle.std.specs.Prelude.{◌≡◌, [], true};
-ghost use Rattle.lb_background.specs.Driven.{ActsUnlessShut, DrivenToEnd, Reads};
-ghost use Rattle.lb_background.specs.Services.{IsServiceAfter, IsServiceRun};
-ghost use Rattle.lb_background.specs.ServiceDriven.{Acts, is_asked};
+//! Drives a run over a port, from its start to its end.
+ghost use Rattle.std.specs.Prelude.{◌≢◌, []};
+ghost use Rattle.lb_background.specs.declared.event.Action.TheVariants as to;
+ghost use Rattle.lb_background.specs.Driven.{Acts, ActsUnlessShut, CanDoAll, DrivenToEnd, Reads};
 
 use crate::event::{Action, Event};
-use crate::port::ServicePort;
-use crate::service_run::ServiceRun;
+use crate::machine::Machine;
+use crate::port::RunPort;
 use std::sync::Wait;
 
 /// Drives a run to its end: does by the port what the run asks for, and gives the run the event that came of it.
 ///
-/// Before anything is done, the port is asked whether the service is to end; where it is, the run gets that event instead.
-pub fn drive<R: Wait, P: ServicePort>(rt: &R, run: ServiceRun, port: &mut P)
-    requires fresh { IsServiceAfter run [] }
-    requires checks { P.can_check }
-    ensures { DrivenToEnd (Reads P.moments P.counts) (ActsUnlessShut P.looks (Acts P.checks P.tells P.sleeps P.awaits P.holds))
-        (IsServiceRun run.plan) port.old port.new }
+/// Before anything is done, the port is asked whether the run is to end; where it is, the run gets that event instead.
+pub fn drive<R: Wait, M: Machine + Drop, P: RunPort>(rt: &R, run: M, port: &mut P)
+    requires fresh { M.is_after run [] }
+    requires can { CanDoAll M.asks P.can_do }
+    ensures { DrivenToEnd (Reads P.moments P.readings)
+        (ActsUnlessShut P.looks (Acts P.updates P.checks P.tells P.sleeps P.awaits P.holds)) (M.is_run (M.plan run)) port.old port.new }
 {
     let mut run = run;
     let mut event = Event::Start;
     for _ in rt.forever() {
         let now = port.now();
-        let count = port.target_count();
-        let action = run.step(now, event, count);
+        let reading = port.reading();
+        let action = run.step(now, event, reading);
         if let Action::Return = action {
             return;
         }
@@ -32,16 +31,17 @@ pub fn drive<R: Wait, P: ServicePort>(rt: &R, run: ServiceRun, port: &mut P)
     unreachable!()
 }
 
-// Does what a run asks for, unless the service is to end; the event that came of it.
-fn act<P: ServicePort>(port: &mut P, action: Action) -> Event
-    requires asked { is_asked action ≡ true }
-    requires checks { P.can_check }
-    ensures { ActsUnlessShut P.looks (Acts P.checks P.tells P.sleeps P.awaits P.holds) port.old action result port.new }
+// Does what a run asks for, unless the run is to end; the event that came of it.
+fn act<P: RunPort>(port: &mut P, action: Action) -> Event
+    requires more { action ≢ to.Return }
+    requires can { P.can_do action }
+    ensures { ActsUnlessShut P.looks (Acts P.updates P.checks P.tells P.sleeps P.awaits P.holds) port.old action result port.new }
 {
     if port.is_shut() {
         return Event::Shutdown;
     }
     match action {
+        Action::Update => Event::Updated(port.update()),
         Action::Check => {
             port.check();
             Event::Checked
@@ -53,6 +53,6 @@ fn act<P: ServicePort>(port: &mut P, action: Action) -> Event
         Action::SleepUntil(moment) => port.sleep_until(moment),
         Action::WaitTargets => port.await_targets(),
         Action::Hold => port.hold(),
-        Action::Update | Action::Return => unreachable!(),
+        Action::Return => unreachable!(),
     }
 }

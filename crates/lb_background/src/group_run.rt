@@ -1,15 +1,18 @@
 //! The run of a group of slots in the background, as a state machine: as that of a balancer, but its notifier waits until each slot serves
 //! what was updated last. The caller does what a step returns, and gives what came of it to the next step.
-ghost use Rattle.std.specs.Prelude.{◌≡◌, List, [], ◌∷◌};
-ghost use Rattle.lb_background.specs.History.{Heard, IsAfter, heard};
+ghost use Rattle.std.specs.Prelude.{◌≡◌, []};
+ghost use Rattle.lb_background.specs.History.{IsAfter};
 ghost use Rattle.lb_background.specs.Runs.{group_plan};
 ghost use Rattle.lb_background.specs.Turns.{fresh};
 
 use crate::event::{Action, Event};
+use crate::machine::Machine;
 use crate::turns::Turns;
 use std::marker::Model;
 
 /// The run of a group. Contracts see how it was made, and what its history says.
+///
+/// A step is given the least generation that a slot serves then, and 18446744073709551615 where there is no slot.
 #[derive(Drop)]
 pub struct GroupRun {
     turns: Turns,
@@ -46,15 +49,26 @@ impl GroupRun {
             turns: Turns::new(true, update_frequency, check, has_notifier),
         }
     }
+}
 
-    /// Takes an event with its moment and `least`, and returns what is to be done: what is right after the run's history.
-    ///
-    /// `least` is the least generation that a slot serves then, and 18446744073709551615 where there is no slot. For an event that doesn't
-    /// fit what was returned last, that is returned again. It takes no memory.
-    pub fn step(&mut self, now: u128, event: Event, least: u64) -> Action
-        ensures history { (h : List Heard) → IsAfter self.old h → IsAfter self.new (heard now least event result ∷ h) }
-        ensures plan { self.new.plan ≡ self.old.plan }
-    {
-        self.turns.step(now, least, event)
+impl Machine for GroupRun {
+    ghost use Rattle.lb_background.specs.Driven.{is_turn};
+    ghost use Rattle.lb_background.specs.History.{IsAfter, IsRun};
+    ghost use Rattle.lb_background.specs.Turns.{Plan};
+
+    ghost Plan = { Plan };
+
+    ghost plan = { λ r. r.plan };
+
+    ghost is_run = { IsRun };
+
+    ghost is_after = { IsAfter };
+
+    ghost asks = { is_turn };
+
+    ghost is_right = { λ r h after. after.run };
+
+    fn step(&mut self, now: u128, event: Event, reading: u64) -> Action {
+        self.turns.step(now, reading, event)
     }
 }

@@ -10,6 +10,7 @@ pub mod event;
 pub mod group_run;
 pub mod laws;
 mod line_rule;
+pub mod machine;
 pub mod port;
 pub mod ready;
 pub mod service;

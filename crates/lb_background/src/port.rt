@@ -1,20 +1,28 @@
-//! The port of a service's run: its clock, its targets and checks, its notifier, and its waits.
-ghost use Rattle.std.specs.Prelude.{ℕ, Bool};
+//! The port of a run: its clock, what it reads, its updates and checks, its notifier, and its waits.
+ghost use Rattle.std.specs.Prelude.{ℕ, Bool, Result};
+ghost use Rattle.lb_background.specs.declared.event.Action.TheVariants.{Check, Hold, Ready, SleepUntil, Update, WaitTargets};
 
 use crate::event::Event;
+use lb_select_base::refusal::Refusal;
 
-/// The calls by which a service is driven. For each a relation says what it returns, and what it leaves.
-pub trait ServicePort {
+/// The calls by which a run is driven. For each a relation says what it returns, and what it leaves.
+///
+/// `can_do` says what may be asked of the port; a call that no run of it asks for is never made.
+pub trait RunPort {
+    ghost use Rattle.lb_background.specs.declared.event.Action.{Action};
     ghost use Rattle.lb_background.specs.declared.event.Event.{Event};
+    ghost use Rattle.lb_select_base.specs.declared.refusal.Refusal.{Refusal};
 
     ghost moments: { Self → ℕ → Self → Type 0 };
 
-    ghost counts: { Self → ℕ → Self → Type 0 };
+    ghost readings: { Self → ℕ → Self → Type 0 };
 
     ghost looks: { Self → Bool → Self → Type 0 };
 
-    // Whether a pass of checks may run.
-    ghost can_check: { Type 0 };
+    // What may be asked for.
+    ghost can_do: { Action → Type 0 };
+
+    ghost updates: { Self → Result ℕ Refusal → Self → Type 0 };
 
     ghost checks: { Self → Self → Type 0 };
 
@@ -30,32 +38,42 @@ pub trait ServicePort {
     fn now(&mut self) -> u128
         ensures { moments self.old result self.new };
 
-    /// Returns how many targets there are.
-    fn target_count(&mut self) -> u64
-        ensures { counts self.old result self.new };
+    /// Returns what the run is given with each event: for a service how many targets there are, for a group the least generation that a
+    /// slot serves, 18446744073709551615 where there is no slot, and for a balancer nothing that counts.
+    fn reading(&mut self) -> u64
+        ensures { readings self.old result self.new };
 
-    /// Returns whether the service is to end.
+    /// Returns whether the run is to end.
     fn is_shut(&mut self) -> bool
         ensures { looks self.old result self.new };
 
+    /// Updates the backends, and returns the newest generation after it, or why there is no update.
+    fn update(&mut self) -> Result<u64, Refusal>
+        requires { can_do Update }
+        ensures { updates self.old result self.new };
+
     /// Checks each target once.
     fn check(&mut self)
-        requires { can_check }
+        requires { can_do Check }
         ensures { checks self.old self.new };
 
-    /// Notifies that the service is ready.
+    /// Notifies that what runs is ready.
     fn tell_ready(&mut self)
+        requires { can_do Ready }
         ensures { tells self.old self.new };
 
-    /// Waits until the moment has come, no target is left, or the service is to end, and returns which of them.
+    /// Waits until the moment has come, the run is to end, or what the run waits for has changed, and returns which of them.
     fn sleep_until(&mut self, moment: u128) -> Event
+        requires { can_do (SleepUntil moment) }
         ensures { sleeps self.old moment result self.new };
 
-    /// Waits until there are targets or the service is to end, and returns which of them.
+    /// Waits until there are targets or the run is to end, and returns which of them.
     fn await_targets(&mut self) -> Event
+        requires { can_do WaitTargets }
         ensures { awaits self.old result self.new };
 
-    /// Waits until the service is to end, or no signal of that can come any more, and returns which of them.
+    /// Waits until the run is to end, or no signal of that can come any more, and returns which of them.
     fn hold(&mut self) -> Event
+        requires { can_do Hold }
         ensures { holds self.old result self.new };
 }

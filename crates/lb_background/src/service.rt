@@ -5,13 +5,14 @@ ghost use Rattle.lb_background.specs.Services.{IsServiceAfter};
 
 use crate::drive::drive;
 use crate::event::Event;
-use crate::port::ServicePort;
+use crate::port::RunPort;
 use crate::ready::ServiceReadyNotifier;
 use crate::service_run::ServiceRun;
 use crate::shutdown::ShutdownWatch;
 use lb_health_core::health_check::{BoxedCheck, HealthCheck};
 use lb_health_core::keys::{KeyRule, Rule};
 use lb_select_base::moments::MomentSource;
+use lb_select_base::refusal::Refusal;
 use lb_threads_core::keyed::NoRule;
 use lb_threads_core::registry::HealthRegistry;
 use log::{Log, error};
@@ -127,17 +128,19 @@ impl<
     C: HealthCheck + Drop,
     W: Wait,
     K: MomentSource,
-> ServicePort for LockedService<'g, 'p, 'r, 'c, 'w, F, R, C, W, K> {
-    ghost use Rattle.std.specs.Prelude.{◌≡◌, None};
-    ghost use Rattle.lb_background.specs.ServiceDriven.{EndsHold, EndsSleep, EndsWait};
+> RunPort for LockedService<'g, 'p, 'r, 'c, 'w, F, R, C, W, K> {
+    ghost use Rattle.std.specs.Prelude.{◌≡◌, None, true};
+    ghost use Rattle.lb_background.specs.ServiceDriven.{EndsHold, EndsSleep, EndsWait, is_asked};
 
     ghost moments = { λ p moment q. K.reads p.clock.now moment q.clock.now };
 
-    ghost counts = { λ p _ q. q.clock.now ≡ p.clock.now };
+    ghost readings = { λ p _ q. q.clock.now ≡ p.clock.now };
 
     ghost looks = { λ p _ q. q.clock.now ≡ p.clock.now };
 
-    ghost can_check = { (pass : F) → F.IsAlwaysCallable pass };
+    ghost can_do = { λ a. (is_asked a ≡ true) × ((pass : F) → F.IsAlwaysCallable pass) };
+
+    ghost updates = { λ _ _ _. ⊥ };
 
     ghost checks = { λ p q. q.clock.now ≡ p.clock.now };
 
@@ -154,7 +157,7 @@ impl<
     }
 
     // A count that is refused is no target.
-    fn target_count(&mut self) -> u64 {
+    fn reading(&mut self) -> u64 {
         match self.registry.target_count(self.rt, self.alloc) {
             Ok(count) => count as u64,
             Err(_) => 0,
@@ -163,6 +166,10 @@ impl<
 
     fn is_shut(&mut self) -> bool {
         self.watch.is_shut()
+    }
+
+    fn update(&mut self) -> Result<u64, Refusal> {
+        unreachable!()
     }
 
     fn check(&mut self) {
@@ -185,7 +192,7 @@ impl<
             if moment <= now {
                 return Event::Woke;
             }
-            if self.target_count() == 0 {
+            if self.reading() == 0 {
                 return Event::ViewRemoved;
             }
             let look = moment.min(now.saturating_add(WITH_TARGETS));
@@ -200,7 +207,7 @@ impl<
             if let Some(Event::Shutdown) = heard {
                 return Event::Shutdown;
             }
-            if self.target_count() > 0 {
+            if self.reading() > 0 {
                 return Event::Targets;
             }
             let look = self.clock.now().saturating_add(WITHOUT_TARGETS);

@@ -1,17 +1,19 @@
 //! The run of a service that only checks the health of targets, as a state machine. The caller does what a step returns, and gives what
 //! came of it to the next step.
-ghost use Rattle.std.specs.Prelude.{◌≡◌, ◌∷◌, List, []};
-ghost use Rattle.lb_background.specs.History.{Heard, heard};
+ghost use Rattle.std.specs.Prelude.{◌≡◌, []};
 ghost use Rattle.lb_background.specs.Runs.{service_plan};
 ghost use Rattle.lb_background.specs.Services.{IsServiceAfter, fresh_service, is_hold, is_waiting, opening, rest_until};
 ghost use Rattle.lb_background.specs.Services.{service_answer, service_noted, with_answer};
 
 use crate::background::BackgroundSchedule;
 use crate::event::{Action, Event};
+use crate::machine::Machine;
 use crate::turns::{is_check, is_ready, is_sleep};
 use std::marker::Model;
 
 /// The run of a health check service. Contracts see how it was made, and what its history says.
+///
+/// A step is given the count of targets then.
 #[derive(Drop)]
 pub struct ServiceRun {
     check: Option<Option<u128>>,
@@ -56,18 +58,30 @@ impl ServiceRun {
             last: Action::Hold,
         }
     }
+}
 
-    /// Takes an event with its moment and the count of targets then, and returns what is to be done: what is right after the run's
-    /// history.
-    ///
-    /// For an event that doesn't fit what was returned last, that is returned again. It takes no memory.
-    pub fn step(&mut self, now: u128, event: Event, count: u64) -> Action
-        ensures history { (h : List Heard) → IsServiceAfter self.old h → IsServiceAfter self.new (heard now count event result ∷ h) }
-        ensures plan { self.new.plan ≡ self.old.plan }
-    {
-        self.take(now, count, event)
+impl Machine for ServiceRun {
+    ghost use Rattle.lb_background.specs.ServiceDriven.{is_asked};
+    ghost use Rattle.lb_background.specs.Services.{IsServiceAfter, IsServiceRun, ServicePlan};
+
+    ghost Plan = { ServicePlan };
+
+    ghost plan = { λ r. r.plan };
+
+    ghost is_run = { IsServiceRun };
+
+    ghost is_after = { IsServiceAfter };
+
+    ghost asks = { is_asked };
+
+    ghost is_right = { λ r h after. after.run };
+
+    fn step(&mut self, now: u128, event: Event, reading: u64) -> Action {
+        self.take(now, reading, event)
     }
+}
 
+impl ServiceRun {
     fn take(&mut self, now: u128, count: u64, event: Event) -> Action
         ensures state { self.new ≡ with_answer (service_noted self.old now event) result }
         ensures action { result ≡ service_answer (service_noted self.old now event) self.old.begun count event }

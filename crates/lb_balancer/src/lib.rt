@@ -3,12 +3,10 @@
 #![tactic(auto)]
 
 pub mod balancing;
-pub mod drive;
 pub mod kept;
 pub mod load_balancer;
 pub mod making;
 pub mod origin;
-pub mod port;
 pub mod reader;
 pub mod run;
 pub mod serving;

@@ -3,11 +3,11 @@ ghost use Rattle.std.specs.Prelude.{◌≡◌, []};
 ghost use Rattle.lb_background.specs.History.{IsAfter};
 
 use crate::balancing::Balancing;
-use crate::drive::drive;
 use crate::load_balancer::LoadBalancer;
-use crate::port::BalancerPort;
 use lb_background::balancer_run::LoadBalancerRun;
+use lb_background::drive::drive;
 use lb_background::event::Event;
+use lb_background::port::RunPort;
 use lb_background::ready::ServiceReadyNotifier;
 use lb_background::shutdown::ShutdownWatch;
 use lb_health_core::health_check::HealthCheck;
@@ -115,16 +115,19 @@ impl<
     C: HealthCheck + Drop,
     W: Log + Wait,
     K: MomentSource,
-> BalancerPort for SharedPort<'b, 'p, 'r, 'c, 'w, F, S, D, R, C, W, K> {
-    ghost use Rattle.std.specs.Prelude.{◌≡◌, None, IfErr, IfOk, OnOk};
+> RunPort for SharedPort<'b, 'p, 'r, 'c, 'w, F, S, D, R, C, W, K> {
+    ghost use Rattle.std.specs.Prelude.{◌≡◌, None, true, IfErr, IfOk, OnOk};
+    ghost use Rattle.lb_background.specs.Driven.{is_turn};
     ghost use Rattle.lb_balancer.specs.History.{IsServedGeneration};
     ghost use Rattle.lb_balancer.specs.SharedUpdates.{EndsSleep, IsSharedRefusal, IsSharedUpdated, ReadsUpdate};
 
     ghost moments = { λ p moment q. K.reads p.clock.now moment q.clock.now };
 
+    ghost readings = { λ p number q. (number ≡ 0) × (q ≡ p) };
+
     ghost looks = { λ p _ q. q.clock.now ≡ p.clock.now };
 
-    ghost can_check = { (pass : F) → F.IsAlwaysCallable pass };
+    ghost can_do = { λ a. (is_turn a ≡ true) × ((pass : F) → F.IsAlwaysCallable pass) };
 
     ghost updates = { λ p r q. OnOk r (IsSharedUpdated D.finds p.balancing.now × ReadsUpdate K.reads p.clock.now q.clock.now)
         × IfOk r (λ n. IsServedGeneration p.balancing.now n)
@@ -136,8 +139,16 @@ impl<
 
     ghost sleeps = { λ _ moment e q. EndsSleep K.reads moment e q.clock.now };
 
+    ghost awaits = { λ _ _ _. ⊥ };
+
+    ghost holds = { λ _ _ _. ⊥ };
+
     fn now(&mut self) -> u128 {
         self.clock.now()
+    }
+
+    fn reading(&mut self) -> u64 {
+        0
     }
 
     fn is_shut(&mut self) -> bool {
@@ -175,6 +186,14 @@ impl<
             }
             self.watch.wait_until(self.rt, self.clock, moment, heard);
         }
+        unreachable!()
+    }
+
+    fn await_targets(&mut self) -> Event {
+        unreachable!()
+    }
+
+    fn hold(&mut self) -> Event {
         unreachable!()
     }
 }

@@ -5,4 +5,5 @@ pub use lb_background::balancer_run::LoadBalancerRun;
 pub use lb_background::event::{Action, Event};
 pub use lb_background::group_run::GroupRun;
 pub use lb_background::laws;
+pub use lb_background::machine::Machine;
 pub use lb_background::service_run::ServiceRun;

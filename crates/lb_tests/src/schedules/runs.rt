@@ -3,6 +3,7 @@ use crate::asserted::assert_same;
 use lb_background::balancer_run::LoadBalancerRun;
 use lb_background::event::{Action, Event};
 use lb_background::group_run::GroupRun;
+use lb_background::machine::Machine;
 use lb_background::service_run::ServiceRun;
 use lb_select_base::refusal::Refusal;
 use std::process::Abort;
@@ -22,7 +23,7 @@ type Answered = (u128, u64, Event, Action);
 impl Run {
     fn step(&mut self, now: u128, number: u64, event: Event) -> Action {
         match self {
-            Run::Balancer(run) => run.step(now, event),
+            Run::Balancer(run) => run.step(now, event, number),
             Run::Group(run) => run.step(now, event, number),
             Run::Service(run) => run.step(now, event, number),
         }

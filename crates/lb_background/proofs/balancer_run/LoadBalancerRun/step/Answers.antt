@@ -1,9 +1,0 @@
-use Rattle.std.proofs.Common.{subst, sym}
-use Rattle.lb_background.specs.History.{IsAfter}
-use Rattle.lb_background.proofs.RunLemmas.{stepped}
-use Rattle.lb_background.proofs.balancer_run.LoadBalancerRun.step.Goals as goal
-
-pub returns-clause-history : goal.returns-clause-history
-returns-clause-history c = λ h after.
-    stepped c.self.inside.turns c.args.now 0 c.args.event h c.step.result c.step.new.self c.step.ensures.state c.step.ensures.action
-    (subst (λ r. IsAfter r h) (sym c.self.view_is) after)
