@@ -7,7 +7,7 @@ use lb_select_base::refusal::Refusal;
 
 /// The calls by which a run is driven. For each a relation says what it returns, and what it leaves.
 ///
-/// `can_do` says what may be asked of the port; a call that no run of it asks for is never made.
+/// `can_do` says when a call may be made. A call that no run of the port asks for is refused, or ends the run.
 pub trait RunPort {
     ghost use Rattle.lb_background.specs.declared.event.Action.{Action};
     ghost use Rattle.lb_background.specs.declared.event.Event.{Event};
@@ -19,7 +19,7 @@ pub trait RunPort {
 
     ghost looks: { Self → Bool → Self → Type 0 };
 
-    // What may be asked for.
+    // When an action may be asked for.
     ghost can_do: { Action → Type 0 };
 
     ghost updates: { Self → Result ℕ Refusal → Self → Type 0 };

@@ -129,8 +129,9 @@ impl<
     W: Wait,
     K: MomentSource,
 > RunPort for LockedService<'g, 'p, 'r, 'c, 'w, F, R, C, W, K> {
-    ghost use Rattle.std.specs.Prelude.{◌≡◌, None, true};
-    ghost use Rattle.lb_background.specs.ServiceDriven.{EndsHold, EndsSleep, EndsWait, is_asked};
+    ghost use Rattle.std.specs.Prelude.{◌≡◌, Err, None};
+    ghost use Rattle.lb_select_base.specs.declared.refusal.Refusal.TheVariants.{NoSuch};
+    ghost use Rattle.lb_background.specs.ServiceDriven.{EndsHold, EndsSleep, EndsWait};
 
     ghost moments = { λ p moment q. K.reads p.clock.now moment q.clock.now };
 
@@ -138,9 +139,9 @@ impl<
 
     ghost looks = { λ p _ q. q.clock.now ≡ p.clock.now };
 
-    ghost can_do = { λ a. (is_asked a ≡ true) × ((pass : F) → F.IsAlwaysCallable pass) };
+    ghost can_do = { λ _. (pass : F) → F.IsAlwaysCallable pass };
 
-    ghost updates = { λ _ _ _. ⊥ };
+    ghost updates = { λ p r q. (r ≡ Err NoSuch) × (q ≡ p) };
 
     ghost checks = { λ p q. q.clock.now ≡ p.clock.now };
 
@@ -168,8 +169,9 @@ impl<
         self.watch.is_shut()
     }
 
+    // No run of a service asks for this.
     fn update(&mut self) -> Result<u64, Refusal> {
-        unreachable!()
+        Err(Refusal::NoSuch)
     }
 
     fn check(&mut self) {

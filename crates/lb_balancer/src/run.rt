@@ -116,8 +116,8 @@ impl<
     W: Log + Wait,
     K: MomentSource,
 > RunPort for SharedPort<'b, 'p, 'r, 'c, 'w, F, S, D, R, C, W, K> {
-    ghost use Rattle.std.specs.Prelude.{◌≡◌, None, true, IfErr, IfOk, OnOk};
-    ghost use Rattle.lb_background.specs.Driven.{is_turn};
+    ghost use Rattle.std.specs.Prelude.{◌≡◌, None, IfErr, IfOk, OnOk};
+    ghost use Rattle.lb_background.specs.declared.event.Event.TheVariants.{Shutdown};
     ghost use Rattle.lb_balancer.specs.History.{IsServedGeneration};
     ghost use Rattle.lb_balancer.specs.SharedUpdates.{EndsSleep, IsSharedRefusal, IsSharedUpdated, ReadsUpdate};
 
@@ -127,7 +127,7 @@ impl<
 
     ghost looks = { λ p _ q. q.clock.now ≡ p.clock.now };
 
-    ghost can_do = { λ a. (is_turn a ≡ true) × ((pass : F) → F.IsAlwaysCallable pass) };
+    ghost can_do = { λ _. (pass : F) → F.IsAlwaysCallable pass };
 
     ghost updates = { λ p r q. OnOk r (IsSharedUpdated D.finds p.balancing.now × ReadsUpdate K.reads p.clock.now q.clock.now)
         × IfOk r (λ n. IsServedGeneration p.balancing.now n)
@@ -139,9 +139,9 @@ impl<
 
     ghost sleeps = { λ _ moment e q. EndsSleep K.reads moment e q.clock.now };
 
-    ghost awaits = { λ _ _ _. ⊥ };
+    ghost awaits = { λ p e q. (e ≡ Shutdown) × (q ≡ p) };
 
-    ghost holds = { λ _ _ _. ⊥ };
+    ghost holds = { λ p e q. (e ≡ Shutdown) × (q ≡ p) };
 
     fn now(&mut self) -> u128 {
         self.clock.now()
@@ -189,11 +189,13 @@ impl<
         unreachable!()
     }
 
+    // No run of a balancer asks for this: it would end.
     fn await_targets(&mut self) -> Event {
-        unreachable!()
+        Event::Shutdown
     }
 
+    // Nor for this.
     fn hold(&mut self) -> Event {
-        unreachable!()
+        Event::Shutdown
     }
 }

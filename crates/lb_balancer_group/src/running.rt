@@ -190,9 +190,9 @@ impl<
     C: HealthCheck + Drop,
     K: MomentSource,
 > RunPort for LockedRun<'r, 'g, 's, 'p, 'c, 'w, F, G, S, W, D, R, C, K> {
-    ghost use Rattle.std.specs.Prelude.{◌≡◌, None, true};
+    ghost use Rattle.std.specs.Prelude.{◌≡◌, None};
     ghost use Rattle.std.specs.Arc.{arc_value};
-    ghost use Rattle.lb_background.specs.Driven.{is_turn};
+    ghost use Rattle.lb_background.specs.declared.event.Event.TheVariants.{Shutdown};
     ghost use Rattle.lb_threads_group.specs.Group.{UpdatedUnder};
     ghost use Rattle.lb_health_view.specs.Discoveries.{FoundBy};
     ghost use Rattle.lb_balancer_group.specs.Readiness.{EndsSleep};
@@ -203,7 +203,7 @@ impl<
 
     ghost looks = { λ p _ q. q.clock.now ≡ p.clock.now };
 
-    ghost can_do = { λ a. (is_turn a ≡ true) × ((start : F) → F.IsAlwaysCallable start) × ((pass : G) → G.IsAlwaysCallable pass) };
+    ghost can_do = { λ _. ((start : F) → F.IsAlwaysCallable start) × ((pass : G) → G.IsAlwaysCallable pass) };
 
     ghost updates = { λ p r q. UpdatedUnder R.gives K.reads (FoundBy D.finds) p.group.now.discovery p.clock.now
         (arc_value p.group.now.shared) r q.clock.now };
@@ -214,9 +214,9 @@ impl<
 
     ghost sleeps = { λ _ _ e _. EndsSleep e };
 
-    ghost awaits = { λ _ _ _. ⊥ };
+    ghost awaits = { λ p e q. (e ≡ Shutdown) × (q ≡ p) };
 
-    ghost holds = { λ _ _ _. ⊥ };
+    ghost holds = { λ p e q. (e ≡ Shutdown) × (q ≡ p) };
 
     fn now(&mut self) -> u128 {
         self.clock.now()
@@ -278,11 +278,13 @@ impl<
         unreachable!()
     }
 
+    // No run of a group asks for this: it would end.
     fn await_targets(&mut self) -> Event {
-        unreachable!()
+        Event::Shutdown
     }
 
+    // Nor for this.
     fn hold(&mut self) -> Event {
-        unreachable!()
+        Event::Shutdown
     }
 }
