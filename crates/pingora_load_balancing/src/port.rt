@@ -1,5 +1,5 @@
 //! A trait of a group's calls, and an update, a worker's turn and a selection over any port of that trait. `PlainPort` is the port of a
-//! plain group, `LockedPort` that of a group that threads share. The port of a run has the calls that a machine of `schedule` asks for.
+//! plain group, `LockedPort` that of a group that threads share. The port of a run has the calls that its machine asks for.
 pub use lb_background::port::RunPort;
 pub use lb_balancer_core::build::{RefusedJob, build};
 pub use lb_balancer_core::plain::PlainPort;
@@ -7,4 +7,5 @@ pub use lb_balancer_core::port::{GroupPort, TakesBack};
 pub use lb_balancer_core::select::select_through;
 pub use lb_balancer_core::turn::{Turn, worker_turn};
 pub use lb_balancer_core::update::update_through;
+pub use lb_balancer_group::port::GroupRunPort;
 pub use lb_threads_group::port::LockedPort;
