@@ -57,7 +57,7 @@ impl<
 > SharedBackends<'g, S, D, R, C> {
     /// Returns the newest generation; 0 before the first membership.
     pub fn generation<W: Wait>(&self, rt: &W) -> u64
-        ensures { Seen (arc_value self.now.group.now.shared).core (λ v. After v (λ made e. result ≡ newest (slot_events e))) }
+        ensures { SawNewest (arc_value self.now.group.now.shared).core result }
     {
         self.group.backend_generation(rt)
     }

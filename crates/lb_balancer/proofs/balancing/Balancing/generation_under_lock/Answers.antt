@@ -1,7 +1,7 @@
 -- What was served at that moment is what some update left.
 use Rattle.std.proofs.Common.{◌∙◌}
 use Rattle.lb_balancer.proofs.Served.{known}
-use Rattle.lb_balancer.proofs.balancing.Balancing.generation.Goals as goal
+use Rattle.lb_balancer.proofs.balancing.Balancing.generation_under_lock.Goals as goal
 
 pub returns : goal.returns
 returns g c =
