@@ -114,15 +114,17 @@ module _ (T R H I C W : RattleType) (g : Selection T.Denot I.Denot C.Denot W.Den
   entry_sync : IsSync (entry.the_row T R H I C W g h k)
   entry_sync = search (sendable, crosses, found_send, found_sync, reader_sync) depth 30
 
+  numbers_inside_send : IsSend (numbers_inside.the_row T I C W g h)
+  numbers_inside_send = search (sendable, crosses, numbered.the_send, numbered.the_sync) depth 30
+
+  numbers_inside_sync : IsSync (numbers_inside.the_row T I C W g h)
+  numbers_inside_sync = search (sendable, crosses, numbered.the_send, numbered.the_sync) depth 30
+
   numbers_send : IsSend (numbers.the_row T I C W g h)
-  numbers_send = view_send _ _ _ _ _ (
-    search (sendable, crosses, numbered.the_send, numbered.the_sync) depth 30 : IsSend (numbers_inside.the_row T I C W g h)
-  )
+  numbers_send = view_send _ _ _ _ _ numbers_inside_send
 
   numbers_sync : IsSync (numbers.the_row T I C W g h)
-  numbers_sync = view_sync _ _ _ _ _ (
-    search (sendable, crosses, numbered.the_send, numbered.the_sync) depth 30 : IsSync (numbers_inside.the_row T I C W g h)
-  )
+  numbers_sync = view_sync _ _ _ _ _ numbers_inside_sync
 
   inside_send : IsSend (inside.the_row T R H I C W g h k)
   inside_send = recorded_send (inside.the_field T R H I C W g h k).row _ _ (inside.the_type T R H I C W g h k).to_one
