@@ -1,4 +1,4 @@
-//! Readings of a group that its users own. Generations and counts of slots are single loads, once a call has changed them or they were read.
+//! Readings of a group that its users own. Generations and counts of slots are single loads, once they were changed or read.
 ghost use Rattle.std.specs.Prelude.{◌≡◌, ◌+◌, MatchBool};
 ghost use Rattle.std.specs.Arc.{arc_value};
 ghost use Rattle.lb_rebuild_core.specs.SlotsCalls.{at_slot};
