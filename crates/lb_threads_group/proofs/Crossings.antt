@@ -115,10 +115,30 @@ module _ (T R H I C W : RattleType) (g : Selection T.Denot I.Denot C.Denot W.Den
   entry_sync = search (sendable, crosses, found_send, found_sync, reader_sync) depth 30
 
   numbers_inside_send : IsSend (numbers_inside.the_row T I C W g h)
-  numbers_inside_send = search (sendable, crosses, numbered.the_send, numbered.the_sync) depth 30
+  numbers_inside_send = recorded_send (numbers_inside.the_field T I C W g h).row _ _ (numbers_inside.the_type T I C W g h).to_one
+      (struct_send (shape (numbers_inside.the_type T I C W g h)) (
+        search (sendable, crosses, numbered.the_field_send) depth 30,
+        (
+          search (sendable, crosses, numbered.the_field_send) depth 30,
+          (
+            search (sendable, crosses, numbered.the_field_send) depth 30,
+            (search (sendable, crosses, numbered.the_field_send) depth 30, tt),
+          ),
+        ),
+      ))
 
   numbers_inside_sync : IsSync (numbers_inside.the_row T I C W g h)
-  numbers_inside_sync = search (sendable, crosses, numbered.the_send, numbered.the_sync) depth 30
+  numbers_inside_sync = recorded_sync (numbers_inside.the_field T I C W g h).row _ _ (numbers_inside.the_type T I C W g h).to_one
+      (struct_sync (shape (numbers_inside.the_type T I C W g h)) (
+        search (sendable, crosses, numbered.the_field_sync) depth 30,
+        (
+          search (sendable, crosses, numbered.the_field_sync) depth 30,
+          (
+            search (sendable, crosses, numbered.the_field_sync) depth 30,
+            (search (sendable, crosses, numbered.the_field_sync) depth 30, tt),
+          ),
+        ),
+      ))
 
   numbers_send : IsSend (numbers.the_row T I C W g h)
   numbers_send = view_send _ _ _ _ _ numbers_inside_send
