@@ -2,10 +2,10 @@
 ghost use Rattle.std.specs.Prelude.{◌≡◌, Err, IfOk, OnErr};
 ghost use Rattle.std.specs.Arc.{arc_value};
 ghost use Rattle.lb_health_core.specs.Registry.{IsGrowthRefusal};
-ghost use Rattle.lb_rebuild_core.specs.SlotsHistory.{newest};
-ghost use Rattle.lb_rebuild_core.specs.GroupHistory.{slot_events, members_now};
+ghost use Rattle.lb_rebuild_core.specs.GroupHistory.{members_now};
 ghost use Rattle.lb_rebuild_core.specs.GroupStates.{After};
 ghost use Rattle.lb_threads_group.specs.Group.{NewestReadyUnder, Seen};
+ghost use Rattle.lb_threads_group.specs.Numbers.{SawNewest};
 
 use crate::configured::Configured;
 use crate::group::LoadBalancerGroup;
