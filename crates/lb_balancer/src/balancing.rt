@@ -371,8 +371,8 @@ impl<
         answer
     }
 
-    // Shows what is served now, and then counts the change. Returns what was shown before. Where memory is refused, the next selection
-    // shows it.
+    // Shows what is served now, then counts the change, and then notes the generation, so that a selection after its reading is of no
+    // earlier one. Returns what was shown before. Where memory is refused, the next selection shows it.
     fn exchange<W: Wait>(
         &self,
         rt: &W,
@@ -382,7 +382,6 @@ impl<
     ) -> Option<Arc<Shown<S>>>
         requires { IsServedBy self.now serving.now }
     {
-        self.note_generation(serving);
         let version = Version {
             balancer: self.changes.load(SeqCst).wrapping_add(1),
             registry: self.registry.changes(),
@@ -392,6 +391,7 @@ impl<
             Err(_) => None,
         };
         self.changes.fetch_add(1, SeqCst);
+        self.note_generation(serving);
         gone
     }
 
