@@ -15,7 +15,6 @@ pub mod loads;
 pub mod lock;
 pub mod making;
 pub mod marks;
-pub mod numbers;
 pub mod owner;
 pub mod registry;
 pub mod rule;

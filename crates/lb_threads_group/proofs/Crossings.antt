@@ -23,9 +23,6 @@ use Rattle.lb_rebuild_core.specs.contracts.retired.Reader as reader
 use Rattle.lb_threads_group.proofs.group.SlotCounters.TheSendSync as line
 use Rattle.lb_threads_group.proofs.found.Tickets.TheSendSync as tickets
 use Rattle.lb_threads_core.proofs.words.KeyedWords.TheSendSync as keyed
-use Rattle.lb_threads_core.proofs.numbers.KeyedNumbers.TheSendSync as numbered
-use Rattle.lb_threads_group.specs.contracts.numbers.GroupNumbers as numbers
-use Rattle.lb_threads_group.specs.contracts.numbers.GroupNumbers.TheInside as numbers_inside
 use Rattle.lb_threads_group.specs.contracts.found.Found as found
 use Rattle.lb_threads_group.specs.contracts.found.Found.TheInside as found_inside
 use Rattle.lb_threads_group.specs.contracts.found.Subject as subject
@@ -114,38 +111,6 @@ module _ (T R H I C W : RattleType) (g : Selection T.Denot I.Denot C.Denot W.Den
   entry_sync : IsSync (entry.the_row T R H I C W g h k)
   entry_sync = search (sendable, crosses, found_send, found_sync, reader_sync) depth 30
 
-  numbers_inside_send : IsSend (numbers_inside.the_row T I C W g h)
-  numbers_inside_send = recorded_send (numbers_inside.the_field T I C W g h).row _ _ (numbers_inside.the_type T I C W g h).to_one
-      (struct_send (shape (numbers_inside.the_type T I C W g h)) (
-        search (sendable, crosses, numbered.the_field_send) depth 30,
-        (
-          search (sendable, crosses, numbered.the_field_send) depth 30,
-          (
-            search (sendable, crosses, numbered.the_field_send) depth 30,
-            (search (sendable, crosses, numbered.the_field_send) depth 30, tt),
-          ),
-        ),
-      ))
-
-  numbers_inside_sync : IsSync (numbers_inside.the_row T I C W g h)
-  numbers_inside_sync = recorded_sync (numbers_inside.the_field T I C W g h).row _ _ (numbers_inside.the_type T I C W g h).to_one
-      (struct_sync (shape (numbers_inside.the_type T I C W g h)) (
-        search (sendable, crosses, numbered.the_field_sync) depth 30,
-        (
-          search (sendable, crosses, numbered.the_field_sync) depth 30,
-          (
-            search (sendable, crosses, numbered.the_field_sync) depth 30,
-            (search (sendable, crosses, numbered.the_field_sync) depth 30, tt),
-          ),
-        ),
-      ))
-
-  numbers_send : IsSend (numbers.the_row T I C W g h)
-  numbers_send = view_send _ _ _ _ _ numbers_inside_send
-
-  numbers_sync : IsSync (numbers.the_row T I C W g h)
-  numbers_sync = view_sync _ _ _ _ _ numbers_inside_sync
-
   inside_send : IsSend (inside.the_row T R H I C W g h k)
   inside_send = recorded_send (inside.the_field T R H I C W g h k).row _ _ (inside.the_type T R H I C W g h k).to_one
       (struct_send (shape (inside.the_type T R H I C W g h k)) (
@@ -178,10 +143,7 @@ module _ (T R H I C W : RattleType) (g : Selection T.Denot I.Denot C.Denot W.Den
                                   search (sendable, crosses) depth 20,
                                   (
                                     search (sendable, crosses) depth 20,
-                                    (
-                                      search (sendable, crosses, generators.the_send, generators.the_sync) depth 20,
-                                      (numbers_send, tt),
-                                    ),
+                                    (search (sendable, crosses, generators.the_send, generators.the_sync) depth 20, tt),
                                   ),
                                 ),
                               ),
@@ -230,10 +192,7 @@ module _ (T R H I C W : RattleType) (g : Selection T.Denot I.Denot C.Denot W.Den
                                   search (sendable, crosses) depth 20,
                                   (
                                     search (sendable, crosses) depth 20,
-                                    (
-                                      search (sendable, crosses, generators.the_send, generators.the_sync) depth 20,
-                                      (numbers_sync, tt),
-                                    ),
+                                    (search (sendable, crosses, generators.the_send, generators.the_sync) depth 20, tt),
                                   ),
                                 ),
                               ),

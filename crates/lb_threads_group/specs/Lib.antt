@@ -1,5 +1,4 @@
 pub mod Found
 pub mod Group
 pub mod Kept
-pub mod Numbers
 pub mod Shared

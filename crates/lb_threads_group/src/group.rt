@@ -7,7 +7,6 @@ ghost use Rattle.lb_threads_group.specs.Shared.{IsSame};
 
 use crate::found::{SlotWords, WordsLock};
 use crate::kept::{Site, SlotLanes};
-use crate::numbers::GroupNumbers;
 use crate::port::LockedPort;
 use lb_balancer_core::update::update_through;
 use lb_health_core::health_check::{BoxedCheck, HealthCheck};
@@ -87,8 +86,6 @@ pub struct SharedGroup<S: BackendSelection, R: KeyRule + Drop = Rule<NoRule>, C 
     pub(crate) readers: AtomicU64,
     // The random words of each lane, for all slots.
     generators: LaneGenerators,
-    // What readings load.
-    pub(crate) numbers: GroupNumbers<S>,
 }
 
 impl<S: BackendSelection, R: KeyRule + Drop, C: Drop> Drop for SharedGroup<S, R, C> {
@@ -110,7 +107,6 @@ impl<S: BackendSelection, R: KeyRule + Drop, C: Drop> Drop for SharedGroup<S, R,
             is_closed: _,
             readers: _,
             generators: _,
-            numbers: _,
         } = self;
     }
 }
@@ -138,8 +134,7 @@ impl<S: BackendSelection, R: KeyRule + Drop, C> Model for SharedGroup<S, R, C> {
           registry = (arc_value g.registry).start;
         })
         × All (λ l. All (λ lane. lane.slot ≡ g.site) l.lanes.items) g.lanes.items
-        × All (λ f. f.table.shared.key ≡ g.site) g.words.items
-        × (g.numbers ≡ g.lock.table.shared.key.value.core) };
+        × All (λ f. f.table.shared.key ≡ g.site) g.words.items };
 }
 
 impl<S: BackendSelection, R: KeyRule + Drop, C: HealthCheck + Drop> SharedGroup<S, R, C> {
@@ -169,7 +164,6 @@ impl<S: BackendSelection, R: KeyRule + Drop, C: HealthCheck + Drop> SharedGroup<
         let site = Site::of(&watched, &*registry);
         let lanes = lanes_of(alloc, board.word_count() - 1, &site)?;
         let words = words_of(alloc, board.word_count() - 1, &site)?;
-        let numbers = GroupNumbers::new(alloc, board.word_count() - 1, &key)?;
         let lock = KeyedLock::new(alloc, watched, &key)?;
         let generators = LaneGenerators::new(alloc, LANES, generator)?;
         Ok(SharedGroup {
@@ -189,7 +183,6 @@ impl<S: BackendSelection, R: KeyRule + Drop, C: HealthCheck + Drop> SharedGroup<
             is_closed: AtomicBool::new(false),
             readers: AtomicU64::new(0),
             generators,
-            numbers,
         })
     }
 

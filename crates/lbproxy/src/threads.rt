@@ -4,7 +4,6 @@ use crate::build::copies;
 use crate::proxy::Proxy;
 use crate::status::serve_page;
 use lb_proxy_loop::engine::Engine;
-use lb_proxy_loop::upstream::Upstream;
 use log::{Log, error};
 use pingora_load_balancing::HealthCheckService;
 use pingora_load_balancing::background::{RuntimeClock, ShutdownWatch};
@@ -43,23 +42,7 @@ where
     C: HealthCheck + Drop + Send + Sync + 'static,
 {
     let listeners = copies(alloc, listeners)?;
-    start_over(rt, alloc, Arc::try_clone(proxy)?, listeners)
-}
-
-// Starts a loop that asks this of its connections.
-fn start_over<R, U>(
-    rt: R,
-    alloc: Global,
-    upstream: Arc<U>,
-    listeners: Vec<mio::net::TcpListener>,
-) -> io::Result<Thread>
-where
-    R: Log + Net + Threads + Wait + Clock + Copy + Drop + Send + Sync + 'static,
-    R::Stream: Send + Sync + 'static,
-    R::Listener: Send + Sync + 'static,
-    U: Upstream + Drop + Send + Sync + 'static,
-{
-    let mut engine = Engine::new(rt, alloc, upstream, listeners)?;
+    let mut engine = Engine::new(rt, alloc, Arc::try_clone(proxy)?, listeners)?;
     let started = thread::spawn(&rt, move || {
         if let Err(error) = engine.run() {
             error!(rt; "a loop ended: {error}");
