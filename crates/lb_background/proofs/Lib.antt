@@ -1,7 +1,7 @@
+pub mod DrivenLemmas
 pub mod LawLemmas
 pub mod RunLemmas
 pub mod ScheduleLemmas
 pub mod ServiceLemmas
-mod DrivenLemmas
 mod Drives
 mod Lines

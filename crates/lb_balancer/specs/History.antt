@@ -1,12 +1,14 @@
 -- What a balancer that threads share may serve and show: what some of its own updates left. Other threads go on changing it, so a call is
 -- made at some state of it.
-use Rattle.std.specs.Prelude.{◌≡◌, ◌<◌, ◌≤◌, ⊤, ℕ, Bool, List, []}
+use Rattle.std.specs.Prelude.{◌≡◌, ◌<◌, ◌≤◌, ⊤, ℕ, Bool, List, [], ◌∷◌}
 use Rattle.lb_select_base.specs.Backends.{Member}
 use Rattle.lb_health_view.specs.Discoveries.{Discovers}
 use Rattle.lb_health_view.specs.declared.discovery.DiscoverySource.{DiscoverySource}
 use Rattle.lb_health_view.specs.RegistrySide.{after_settings, with_membership}
-use Rattle.lb_health_view.specs.ViewEvents.{ViewEvent, generation_after, membership_after}
+use Rattle.lb_health_view.specs.ViewEvents.{ViewEvent, Set, generation_after, membership_after}
 use Rattle.lb_health_view.specs.Views.{IsViewAfter}
+use Rattle.lb_health_core.specs.Registry.{RegistryValue}
+use Rattle.lb_balancer_core.specs.Balancer.{IsJudged}
 use Rattle.lb_balancer.specs.Shown.{ServingValue, ShownValue}
 
 -- what a caller knows of a balancer: its discovery, what its selectors are built with, and the generation at which it was made
@@ -47,9 +49,19 @@ module _ {D C : Type 0} (b : BalancerValue D C) where
     pub first : b.first ≤ s.generation
     pub discovered : AreDiscovered b.discovery s.generation s.members
 
+  -- Whether a backend is ready in the newest membership, by what the balancer served and some registry's state at that moment. Which
+  -- registry isn't said.
+  abbrev pub IsJudgedBy : {R : Type 0} → (R → Member → Member → Type 0) → Member → Bool → Type 0
+  IsJudgedBy {R} gives backend ready =
+      (s : ServingValue C) × IsServedBy s × ((x : RegistryValue R) × IsJudged gives s.view x backend ready)
+
   -- a call that was made at some state of what the balancer serves, and left one
   abbrev pub UnderServing : (ServingValue C → ServingValue C → Type 0) → Type 0
   UnderServing Call = (s : ServingValue C) × ((t : ServingValue C) × (IsServedBy s × (IsServedBy t × Call s t)))
+
+-- a backend that the newest membership lists was enabled or disabled
+abbrev pub SetsFlag : {C : Type 0} → Member → Bool → ServingValue C → ServingValue C → Type 0
+SetsFlag b enabled s t = (views : List ViewEvent) → IsViewAfter views s.view → IsViewAfter (Set b enabled ∷ views) t.view
 
 -- a view took members and settings
 abbrev pub Takes : {C : Type 0} → List Member → List (Member × Bool) → ServingValue C → ServingValue C → Type 0

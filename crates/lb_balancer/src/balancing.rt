@@ -10,14 +10,15 @@ ghost use Rattle.lb_select_base.specs.Refusals.{Refuses, memory_apart};
 ghost use Rattle.lb_select_base.specs.Memberships.{same_members};
 ghost use Rattle.lb_rebuild_core.specs.GroupCalls.{AcceptsBy};
 ghost use Rattle.lb_health_view.specs.RegistrySide.{settings_of};
-ghost use Rattle.lb_health_view.specs.Views.{IsViewAfter, IsViewRefusal};
+ghost use Rattle.lb_health_view.specs.Views.{IsViewRefusal};
 ghost use Rattle.lb_health_core.specs.Registry.{IsGrowthRefusal};
 ghost use Rattle.lb_balancer_core.specs.Timings.{Reads};
-ghost use Rattle.lb_balancer.specs.History.{IsServedBy, IsServedGeneration, IsShownBy, MayGive, TakesIn, UnderServing};
+ghost use Rattle.lb_balancer.specs.History.{IsJudgedBy, IsServedBy, IsServedGeneration, IsShownBy};
+ghost use Rattle.lb_balancer.specs.History.{MayGive, SetsFlag, TakesIn, UnderServing};
 ghost use Rattle.lb_balancer.specs.Shown.{ShownValue};
 ghost use Rattle.lb_balancer.specs.SharedUpdates.{IsBuildRefusal, IsSharedRefusal, IsSharedUpdated, ReadsUpdate};
 
-use crate::origin::{KeptShown, OfServing, OfShown, Origin};
+use crate::origin::{KeptShown, OfGeneration, OfServing, OfShown, Origin};
 use crate::serving::{BuiltSelector, Serving, built_of};
 use crate::shown::{Shown, Version};
 use lb_balancer_core::timings::UpdateTimings;
@@ -25,16 +26,17 @@ use lb_health_core::health_check::HealthCheck;
 use lb_health_core::keys::KeyRule;
 use lb_health_core::registry::Registry;
 use lb_health_view::discovery::ServiceDiscovery;
-use lb_health_view::view::{Settings, ViewCore};
+use lb_health_view::view::Settings;
 use lb_select_base::backend::Backend;
 use lb_select_base::moments::MomentSource;
 use lb_select_base::refusal::Refusal;
 use lb_select_base::walk::BackendSelection;
-use lb_threads_core::backends::{Backends, BackendsParts};
+use lb_threads_core::backends::{Backends, BackendsParts, registered_view};
 use lb_threads_core::generators::LaneGenerators;
 use lb_threads_core::lanes::Lanes;
 use lb_threads_core::loads::SharedLoads;
 use lb_threads_core::lock::KeyedLock;
+use lb_threads_core::numbers::KeyedNumbers;
 use lb_threads_core::owner::ViewOwner;
 use lb_threads_core::registry::{HealthRegistry, put_registry, take_registry};
 use log::Log;
@@ -53,14 +55,17 @@ type ServingLock<S, D> = KeyedLock<Serving<S>, Snapshot<Origin<S, D>>, OfServing
 
 type ShownLock<S, D> = KeyedLock<Arc<Shown<S>>, Snapshot<Origin<S, D>>, OfShown>;
 
+type GenerationNumber<S, D> = KeyedNumbers<Snapshot<Origin<S, D>>, OfGeneration>;
+
 // The number of lanes: as many as threads that select at once may want, a power of two.
 const LANES: usize = 64;
 
-// What a balancer has for its threads: the locks of what is served and of what is shown of it, the lanes with their generators, and the
-// loads.
+// What a balancer has for its threads: the locks of what is served and of what is shown of it, the generation that is served, the lanes
+// with their generators, and the loads.
 struct Places<S: BackendSelection, D> {
     serving: ServingLock<S, D>,
     shown: ShownLock<S, D>,
+    generation: GenerationNumber<S, D>,
     lanes: Lanes<KeptShown<S, D>>,
     generators: LaneGenerators,
     loads: Arc<SharedLoads>,
@@ -76,6 +81,8 @@ pub struct Balancing<S: BackendSelection, D, R: KeyRule + Drop, C> {
     updates: Mutex<()>,
     serving: ServingLock<S, D>,
     shown: ShownLock<S, D>,
+    // Noted while what is served is locked.
+    generation: GenerationNumber<S, D>,
     pub(crate) lanes: Lanes<KeptShown<S, D>>,
     // The random words of each lane.
     pub(crate) generators: LaneGenerators,
@@ -95,6 +102,7 @@ impl<S: BackendSelection, D: Drop, R: KeyRule + Drop, C: Drop> Drop for Balancin
             updates: _,
             serving: _,
             shown: _,
+            generation: _,
             lanes: _,
             generators: _,
             timing: _,
@@ -114,7 +122,7 @@ impl<S: BackendSelection, D, R: KeyRule + Drop, C> Model for Balancing<S, D, R, 
     ghost view = { λ b. b.origin };
 
     ghost invariant = { λ b. (b.serving.table.shared.key.value ≡ b.origin) × (b.shown.table.shared.key.value ≡ b.origin)
-        × All (λ lane. lane.slot ≡ b.origin) b.lanes.lanes.items };
+        × (b.generation.words.table.shared.key.value ≡ b.origin) × All (λ lane. lane.slot ≡ b.origin) b.lanes.lanes.items };
 }
 
 impl<
@@ -149,8 +157,8 @@ impl<
         } = backends.into_parts();
         let shared: &HealthRegistry<R, C> = &*registry;
         let built = first_built(rt, alloc, shared, &config)?;
-        let view = register(rt, alloc, shared)?;
-        let owner = owned(rt, alloc, shared, view.id())?;
+        let view = registered_view(rt, alloc, shared)?;
+        let owner = shared.own_view(rt, alloc, view.id())?;
         let origin = Origin {
             discovery,
             config,
@@ -174,7 +182,7 @@ impl<
         ensures refused { IfErr result (λ e. e ≡ Refusal.OutOfMemory) }
     {
         let shared = Arc::new(alloc, HealthRegistry::over(alloc, registry)?)?;
-        let owner = owned(rt, alloc, &*shared, serving.view_id())?;
+        let owner = shared.own_view(rt, alloc, serving.view_id())?;
         let places = places_over(rt, alloc, &*shared, serving, &origin)?;
         Ok(Balancing::behind(origin, shared, owner, places, Some(timing)))
     }
@@ -188,12 +196,13 @@ impl<
         timing: Option<UpdateTimings>,
     ) -> Balancing<S, D, R, C>
         requires { (places.serving.table.shared.key.value ≡ origin) × (places.shown.table.shared.key.value ≡ origin)
-            × All (λ lane. lane.slot ≡ origin) places.lanes.lanes.items }
+            × (places.generation.words.table.shared.key.value ≡ origin) × All (λ lane. lane.slot ≡ origin) places.lanes.lanes.items }
         ensures { result ≡ origin }
     {
         let Places {
             serving,
             shown,
+            generation,
             lanes,
             generators,
             loads,
@@ -205,6 +214,7 @@ impl<
             updates: Mutex::new(()),
             serving,
             shown,
+            generation,
             lanes,
             generators,
             timing: Mutex::new(timing),
@@ -362,8 +372,8 @@ impl<
         answer
     }
 
-    // Shows what is served now, and then counts the change. Returns what was shown before. Where memory is refused, the next selection
-    // shows it.
+    // Shows what is served now, then counts the change, and then notes the generation, so that a selection after its reading is of no
+    // earlier one. Returns what was shown before. Where memory is refused, the next selection shows it.
     fn exchange<W: Wait>(
         &self,
         rt: &W,
@@ -382,7 +392,16 @@ impl<
             Err(_) => None,
         };
         self.changes.fetch_add(1, SeqCst);
+        self.note_generation(serving);
         gone
+    }
+
+    // Notes the generation that is served.
+    fn note_generation(&self, serving: &Serving<S>)
+        requires { IsServedBy self.now serving.now }
+    {
+        let _key = &self.origin;
+        self.generation.note(0, serving.generation());
     }
 
     // Shows this from now on. Returns what was shown before.
@@ -426,11 +445,25 @@ impl<
     }
 
     /// Returns the newest generation; 0 before the first membership.
+    ///
+    /// It is one load, but for the first reading before the first update, which takes the lock of what is served.
     pub fn generation<W: Wait>(&self, rt: &W) -> u64
         ensures { IsServedGeneration self.now result }
     {
         let _key = &self.origin;
+        match self.generation.get(0) {
+            Some(generation) => generation,
+            None => self.generation_under_lock(rt),
+        }
+    }
+
+    // The newest generation, by the lock of what is served.
+    fn generation_under_lock<W: Wait>(&self, rt: &W) -> u64
+        ensures { IsServedGeneration self.now result }
+    {
+        let _key = &self.origin;
         let held = self.serving.take(rt);
+        self.note_generation(&held.value);
         let generation = held.value.generation();
         self.serving.put(held);
         generation
@@ -451,7 +484,9 @@ impl<
     }
 
     /// Returns whether a backend is ready in the newest membership, without taking memory.
-    pub fn ready<W: Wait>(&self, rt: &W, backend: &Backend) -> bool {
+    pub fn ready<W: Wait>(&self, rt: &W, backend: &Backend) -> bool
+        ensures { IsJudgedBy self.now R.gives backend.now result }
+    {
         let _key = &self.origin;
         let registries: &HealthRegistry<R, C> = &*self.registry;
         let held = self.serving.take(rt);
@@ -465,7 +500,9 @@ impl<
     /// Enables or disables a backend of the newest membership, by identity; another is left alone.
     ///
     /// It needs no memory: where that is refused, the next selection shows it.
-    pub fn set_enable<W: Wait>(&self, rt: &W, alloc: Global, backend: &Backend, enabled: bool) {
+    pub fn set_enable<W: Wait>(&self, rt: &W, alloc: Global, backend: &Backend, enabled: bool)
+        ensures { UnderServing self.now (SetsFlag backend.now enabled) }
+    {
         let _key = &self.origin;
         let mut held = self.serving.take(rt);
         held.value.set_enable(backend, enabled);
@@ -607,51 +644,9 @@ fn first_built<S: BackendSelection, R: KeyRule + Drop, C: HealthCheck + Drop, W:
 {
     match built_of(alloc, &BTreeSet::new(alloc), config, 0) {
         Ok(built) => Ok(built),
-        Err(Refusal::OutOfMemory) if is_full(rt, registry) => Err(Refusal::NumbersExhausted),
+        Err(Refusal::OutOfMemory) if registry.is_full(rt) => Err(Refusal::NumbersExhausted),
         Err(refusal) => Err(refusal),
     }
-}
-
-// Whether no number is left for one more view.
-fn is_full<R: KeyRule + Drop, C: HealthCheck + Drop, W: Wait>(
-    rt: &W,
-    registry: &HealthRegistry<R, C>,
-) -> bool {
-    let cells = take_registry(registry, rt);
-    let full = cells.value.is_full();
-    put_registry(registry, cells);
-    full
-}
-
-// A view of its own in the registry.
-fn register<R: KeyRule + Drop, C: HealthCheck + Drop, W: Wait>(
-    rt: &W,
-    alloc: Global,
-    registry: &HealthRegistry<R, C>,
-) -> Result<ViewCore, Refusal>
-    ensures made { IfOk result (λ v. IsViewAfter [] v) }
-    ensures refused { OnErr result (IsGrowthRefusal result) }
-{
-    let mut cells = take_registry(registry, rt);
-    let told = ViewCore::register(alloc, &mut cells.value);
-    put_registry(registry, cells);
-    told
-}
-
-// The owner of a view of the registry; where it is refused, the view is marked for removal.
-fn owned<R: KeyRule + Drop, C: HealthCheck + Drop, W: Wait>(
-    rt: &W,
-    alloc: Global,
-    registry: &HealthRegistry<R, C>,
-    id: u64,
-) -> Result<ViewOwner, Refusal>
-    ensures { IfErr result (λ e. e ≡ Refusal.OutOfMemory) }
-{
-    let told = registry.own_view(rt, alloc, id);
-    if told.is_err() {
-        registry.remove_view(rt, id);
-    }
-    told
 }
 
 // What is served, with the readiness that the registry gives.
@@ -684,7 +679,7 @@ fn places_over<S: BackendSelection, D, R: KeyRule + Drop, C: HealthCheck + Drop,
 ) -> Result<Places<S, D>, Refusal>
     requires { IsServedBy origin.now serving }
     ensures made { IfOk result (λ p. (p.serving.table.shared.key.value ≡ origin.now) × (p.shown.table.shared.key.value ≡ origin.now)
-        × All (λ lane. lane.slot ≡ origin.now) p.lanes.lanes.items) }
+        × (p.generation.words.table.shared.key.value ≡ origin.now) × All (λ lane. lane.slot ≡ origin.now) p.lanes.lanes.items) }
     ensures refused { IfErr result (λ e. e ≡ Refusal.OutOfMemory) }
 {
     let version = Version {
@@ -704,6 +699,7 @@ fn places_over<S: BackendSelection, D, R: KeyRule + Drop, C: HealthCheck + Drop,
     Ok(Places {
         serving: KeyedLock::new(alloc, serving, &key)?,
         shown: KeyedLock::new(alloc, shown, &key)?,
+        generation: KeyedNumbers::new(alloc, 1, &key)?,
         lanes,
         generators,
         loads,

@@ -8,6 +8,7 @@ use counted_slot::Fits;
 use lb_health_view::discovery::DiscoverySource;
 use lb_select_base::walk::BackendSelection;
 use lb_threads_core::rule::LockRule;
+use lb_threads_core::word_rule::WordRule;
 use std::marker::{Model, PhantomData};
 use std::snapshot::Snapshot;
 use std::sync::Arc;
@@ -52,6 +53,15 @@ impl<S: BackendSelection, D> LockRule<Serving<S>, Snapshot<Origin<S, D>>> for Of
     ghost use Rattle.lb_balancer.specs.History.{IsServedBy};
 
     ghost holds = { λ key s. IsServedBy key.value s };
+}
+
+/// The number is a generation that the balancer served, at some moment.
+pub struct OfGeneration {}
+
+impl<S: BackendSelection, D> WordRule<Snapshot<Origin<S, D>>> for OfGeneration {
+    ghost use Rattle.lb_balancer.specs.History.{IsServedGeneration};
+
+    ghost holds = { λ key _ n. IsServedGeneration key.value n };
 }
 
 /// What is shown is what the balancer's own updates left.

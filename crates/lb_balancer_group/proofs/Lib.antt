@@ -2,4 +2,3 @@ pub mod Accepts
 pub mod Crossings
 pub mod FirstSlots
 pub mod Handles
-mod DrivenLemmas

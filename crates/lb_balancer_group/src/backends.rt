@@ -5,7 +5,7 @@ ghost use Rattle.lb_health_core.specs.Registry.{IsGrowthRefusal};
 ghost use Rattle.lb_rebuild_core.specs.SlotsHistory.{newest};
 ghost use Rattle.lb_rebuild_core.specs.GroupHistory.{slot_events, members_now};
 ghost use Rattle.lb_rebuild_core.specs.GroupStates.{After};
-ghost use Rattle.lb_threads_group.specs.Group.{NewestReadyUnder, Seen};
+ghost use Rattle.lb_threads_group.specs.Group.{FlaggedUnder, NewestReadyUnder, Seen};
 
 use crate::configured::Configured;
 use crate::group::LoadBalancerGroup;
@@ -87,7 +87,9 @@ impl<
     /// Enables or disables a backend that a living snapshot lists, by identity; another is left alone.
     ///
     /// It takes no memory.
-    pub fn set_enable<W: Wait>(&self, rt: &W, backend: &Backend, enabled: bool) {
+    pub fn set_enable<W: Wait>(&self, rt: &W, backend: &Backend, enabled: bool)
+        ensures { FlaggedUnder (arc_value self.now.group.now.shared).core backend.now enabled }
+    {
         let group = self.group;
         let shared: &SharedGroup<Configured<S>, R, C> = &*group.shared;
         shared.set_enable(rt, backend, enabled);

@@ -86,7 +86,7 @@ pub(crate) fn first_cause<S: BackendSelection, R: KeyRule + Drop, C: HealthCheck
 {
     match least_cause::<S>(alloc, configs) {
         Some(refusal) => Some(refusal),
-        None if is_full(rt, registry) => Some(Refusal::NumbersExhausted),
+        None if registry.is_full(rt) => Some(Refusal::NumbersExhausted),
         None => None,
     }
 }
@@ -176,23 +176,7 @@ pub(crate) fn opened<S: BackendSelection, R: KeyRule + Drop, C: HealthCheck + Dr
 {
     let copies = copies_of(alloc, configs)?;
     let core: GroupCore<Configured<S>> = make(rt, alloc, &**registry, &*gate, copies)?;
-    let id = core.id();
-    let opened = share(rt, alloc, core, registry, gate);
-    if opened.is_err() {
-        registry.remove_view(rt, id);
-    }
-    opened
-}
-
-// Whether no number is left for one more view.
-fn is_full<R: KeyRule + Drop, C: HealthCheck + Drop, W: Wait>(
-    rt: &W,
-    registry: &HealthRegistry<R, C>,
-) -> bool {
-    let cells = take_registry(registry, rt);
-    let full = cells.value.is_full();
-    put_registry(registry, cells);
-    full
+    share(rt, alloc, core, registry, gate)
 }
 
 // Updates by a clock that notes its readings, which are those of the clock that it borrows.

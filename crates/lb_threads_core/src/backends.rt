@@ -134,7 +134,7 @@ impl<D: ServiceDiscovery + Drop, R: KeyRule + Drop, C: HealthCheck + Drop> Backe
         ensures registered { UnderRegistry R.gives (arc_value registry).start (IsRegisteredAs R.gives (λ b. b.id) result) }
         ensures refused { OnErr result (IsGrowthRefusal result) }
     {
-        let view = register(rt, alloc, &*registry)?;
+        let view = registered_view(rt, alloc, &*registry)?;
         Backends::behind(rt, alloc, discovery, registry, view, false)
     }
 
@@ -153,7 +153,7 @@ impl<D: ServiceDiscovery + Drop, R: KeyRule + Drop, C: HealthCheck + Drop> Backe
         ensures refused { IfErr result (λ e. e ≡ Refusal.OutOfMemory) }
     {
         let id = view.id();
-        let owner = owned(rt, alloc, &*registry, id)?;
+        let owner = registry.own_view(rt, alloc, id)?;
         let view = KeyedLock::new(alloc, view, &id)?;
         Ok(Backends {
             discovery,
@@ -367,8 +367,15 @@ impl<
     }
 }
 
-// A view of its own in the registry.
-fn register<R: KeyRule + Drop, C: HealthCheck + Drop, W: Wait>(
+/// Registers a view without backends in a registry that threads share, and returns it.
+///
+/// The marks that wait in the registry are applied. It is for the crates of this library.
+///
+/// # Errors
+///
+/// `NumbersExhausted` where no number is left for a view, whatever memory is left; `OutOfMemory` where memory is refused. The registry
+/// is as it was then.
+pub fn registered_view<R: KeyRule + Drop, C: HealthCheck + Drop, W: Wait>(
     rt: &W,
     alloc: Global,
     registry: &HealthRegistry<R, C>,
@@ -380,21 +387,5 @@ fn register<R: KeyRule + Drop, C: HealthCheck + Drop, W: Wait>(
     let mut cells = registry.take(rt);
     let told = ViewCore::register(alloc, &mut cells.value);
     registry.put(cells);
-    told
-}
-
-// The owner of a view of the registry; where it is refused, the view is marked for removal.
-fn owned<R: KeyRule + Drop, C: HealthCheck + Drop, W: Wait>(
-    rt: &W,
-    alloc: Global,
-    registry: &HealthRegistry<R, C>,
-    id: u64,
-) -> Result<ViewOwner, Refusal>
-    ensures { IfErr result (λ e. e ≡ Refusal.OutOfMemory) }
-{
-    let told = registry.own_view(rt, alloc, id);
-    if told.is_err() {
-        registry.remove_view(rt, id);
-    }
     told
 }

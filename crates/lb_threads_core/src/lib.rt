@@ -15,6 +15,7 @@ pub mod loads;
 pub mod lock;
 pub mod making;
 pub mod marks;
+pub mod numbers;
 pub mod owner;
 pub mod registry;
 pub mod rule;

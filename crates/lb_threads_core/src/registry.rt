@@ -1,10 +1,10 @@
 //! A registry of health that threads share, and the passes that check its targets, one after another or at the same time. No check runs
 //! under the registry's lock: a pass copies its targets, and each verdict takes the lock for one call.
-ghost use Rattle.std.specs.Prelude.{◌≡◌, ◌∷◌, ℕ, All, Bool, false, length, Result, Err, IfErr, IfOk, OnErr};
+ghost use Rattle.std.specs.Prelude.{◌≡◌, ◌↔◌, ◌≤◌, ◌+◌, ◌^◌, ◌∷◌, ℕ, All, Bool, IsTrue, false, length, Result, Err, IfErr, IfOk, OnErr};
 ghost use Rattle.std.specs.Arc.{arc_value};
 ghost use Rattle.lb_health_core.specs.declared.error.CheckError.{CheckError};
 ghost use Rattle.lb_health_core.specs.Registry.{IsGrowthRefusal, IsUpdateRefusal, targets_after};
-ghost use Rattle.lb_health_core.specs.RegistryEvents.{Marked, views_after};
+ghost use Rattle.lb_health_core.specs.RegistryEvents.{Marked, registered_after, views_after};
 ghost use Rattle.lb_health_core.specs.Targets.{target_keys};
 ghost use Rattle.lb_health_core.specs.Verdicts.{Verdict};
 ghost use Rattle.lb_health_core.specs.RegistryEvents.{Configured};
@@ -13,7 +13,7 @@ ghost use Rattle.lb_select_base.specs.declared.refusal.Refusal.{Refusal};
 ghost use Rattle.lb_threads_core.specs.Internal.Leaving.{EndsSnapshots, HaveLeft, IsNoteOf};
 ghost use Rattle.lb_threads_core.specs.Registry.{Becomes};
 ghost use Rattle.lb_threads_core.specs.Registry.{IsApplied, IsCellReady, IsObserved, IsRegistered, IsRegistryOf, IsUpdated};
-ghost use Rattle.lb_threads_core.specs.Registry.{SeenIn, UnderRegistry};
+ghost use Rattle.lb_threads_core.specs.Registry.{SeenIn, Told, UnderRegistry};
 
 use crate::keyed::NoRule;
 use crate::lock::{KeyedLock, TakenValue};
@@ -162,8 +162,19 @@ impl<R: KeyRule + Drop, C: HealthCheck + Drop> HealthRegistry<R, C> {
     ///
     /// # Errors
     ///
-    /// `OutOfMemory` where memory is refused; the view has no owner then, and stays.
+    /// `OutOfMemory` where memory is refused; the view is marked for removal then.
     pub fn own_view<W: Wait>(&self, rt: &W, alloc: Global, id: u64) -> Result<ViewOwner, Refusal>
+        ensures { IfErr result (λ e. e ≡ Refusal.OutOfMemory) }
+    {
+        let owner = self.owner_of(rt, alloc, id);
+        if owner.is_err() {
+            self.remove_view(rt, id);
+        }
+        owner
+    }
+
+    // The owner of a view, if there is memory for one.
+    fn owner_of<W: Wait>(&self, rt: &W, alloc: Global, id: u64) -> Result<ViewOwner, Refusal>
         ensures { IfErr result (λ e. e ≡ Refusal.OutOfMemory) }
     {
         let note = Arc::new(
@@ -280,6 +291,16 @@ impl<R: KeyRule + Drop, C: HealthCheck + Drop> HealthRegistry<R, C> {
     /// It takes no lock.
     pub fn changes(&self) -> u64 {
         self.changes.load(SeqCst)
+    }
+
+    /// Returns whether no number is left for one more view, without taking memory.
+    pub fn is_full<W: Wait>(&self, rt: &W) -> bool
+        ensures { SeenIn R.gives self.now.start (λ x. Told R.gives x (λ _ events. IsTrue result ↔ (2 ^ 64 ≤ registered_after events + 1))) }
+    {
+        let held = self.take(rt);
+        let is_full = held.value.is_full();
+        self.put(held);
+        is_full
     }
 
     /// Returns whether a cell is kept and healthy, without taking memory.

@@ -1,6 +1,6 @@
 -- What is known of a group that threads share: which one it is, its gate and its configurations stay; between two calls of a thread
 -- others may have changed the rest. So a call is one of the plain group at some state of this group, the one that its lock gave.
-use Rattle.std.specs.Prelude.{◌≡◌, ◌↔◌, ℕ, Bool, List, Option, Some, Result, Ok, Err, IsTrue, slice_get}
+use Rattle.std.specs.Prelude.{◌≡◌, ◌↔◌, ℕ, Bool, List, [], ◌∷◌, Option, Some, Result, Ok, Err, IsTrue, slice_get}
 use Rattle.lb_select_base.specs.Backends.{Member}
 use Rattle.lb_select_base.specs.Draws.{Draw}
 use Rattle.lb_select_base.specs.declared.refusal.Refusal.{Refusal}
@@ -16,7 +16,7 @@ use Rattle.lb_rebuild_core.specs.declared.answers.Publication.{Publication}
 use Rattle.lb_rebuild_core.specs.declared.answers.Publication.TheVariants as told
 use Rattle.lb_rebuild_core.specs.declared.membership.Scheduled.{Scheduled}
 use Rattle.lb_rebuild_core.specs.GroupCalls.{released_where, generation_at}
-use Rattle.lb_rebuild_core.specs.GroupHistory.{History, slot_events, in_group}
+use Rattle.lb_rebuild_core.specs.GroupHistory.{History, Set, slot_events, in_group}
 use Rattle.lb_rebuild_core.specs.Stands.{Made}
 use Rattle.lb_rebuild_core.specs.GroupStates.{GroupValue, After, Becomes, IsFounded, SameSite, views_of}
 use Rattle.lb_balancer_core.specs.Through.{UpdatedThrough}
@@ -50,6 +50,10 @@ module _ {C : Type 0} where
   abbrev pub UnderGate : GroupValue C → (GroupValue C → GateValue → GroupValue C → GateValue → Type 0) → Type 0
   UnderGate site Call =
       (g : GateValue) × ((k : GateValue) × ((g.id ≡ site.group.gate) × Under site (λ v w. Call v g w k)))
+
+  -- a backend was enabled or disabled in the living snapshots that list it
+  abbrev pub FlaggedUnder : GroupValue C → Member → Bool → Type 0
+  FlaggedUnder site b enabled = Under site (λ v w. Becomes v (Set b enabled ∷ []) w × SameSite v w)
 
   abbrev pub EnteredUnder : GroupValue C → ℕ → Result (ReaderValue C) Refusal → Type 0
   EnteredUnder site slot r = Under site (λ v w. IsEntered v slot r w)

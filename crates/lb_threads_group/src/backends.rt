@@ -4,7 +4,7 @@ ghost use Rattle.std.specs.Prelude.{◌≡◌, Err, IfOk, OnErr};
 ghost use Rattle.std.specs.Arc.{arc_value};
 ghost use Rattle.lb_rebuild_core.specs.GroupHistory.{members_now};
 ghost use Rattle.lb_rebuild_core.specs.GroupStates.{After};
-ghost use Rattle.lb_threads_group.specs.Group.{NewestReadyUnder, Seen};
+ghost use Rattle.lb_threads_group.specs.Group.{FlaggedUnder, NewestReadyUnder, Seen};
 
 use crate::group::SharedGroup;
 use lb_health_core::health_check::HealthCheck;
@@ -54,9 +54,12 @@ impl<S: BackendSelection, R: KeyRule + Drop, C: HealthCheck + Drop> SharedGroup<
     /// Enables or disables a backend that a living snapshot lists, by identity; another is left alone.
     ///
     /// It takes no memory.
-    pub fn set_enable<W: Wait>(&self, rt: &W, backend: &Backend, enabled: bool) {
+    pub fn set_enable<W: Wait>(&self, rt: &W, backend: &Backend, enabled: bool)
+        ensures { FlaggedUnder self.now.core backend.now enabled }
+    {
         let _gate = &self.gate;
         let mut held = self.lock.take(rt);
+        held.value.founded();
         held.value.set_enable(backend, enabled);
         self.lock.put(held);
         self.note_change();

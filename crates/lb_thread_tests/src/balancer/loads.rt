@@ -5,12 +5,15 @@ use lb_balancer::reader::BalancerReader;
 use lb_balancer_core::turn::worker_turn;
 use lb_balancer_group::group::LoadBalancerGroup;
 use lb_crowd::crowd::NoCheck;
-use lb_health_core::keys::Rule;
+use lb_health_core::health_check::HealthCheck;
+use lb_health_core::keys::{KeyRule, Rule};
 use lb_health_view::discovery::{DiscoverySource, Static};
 use lb_select::least::LeastConnections;
 use lb_select_base::backend::Backend;
+use lb_select_base::walk::BackendSelection;
 use lb_threads_core::backends::Backends;
 use lb_threads_core::keyed::NoRule;
+use lb_threads_group::group::SharedGroup;
 use lb_threads_group::port::LockedPort;
 use std::alloc::Global;
 use std::process::Abort;
@@ -114,6 +117,17 @@ fn load_one<R: Abort + Wait>(
     note(rt, text, &found);
 }
 
+// A turn of the worker of a group's only slot.
+fn turn<S: BackendSelection, K: KeyRule + Drop, C: HealthCheck + Drop, R: Abort + Wait>(
+    rt: &R,
+    alloc: Global,
+    group: &SharedGroup<S, K, C>,
+    clock: &mut Ticks,
+) {
+    let mut port = LockedPort::new(group, rt);
+    worker_turn(alloc, &mut port, 0, clock).expect(rt, "refused");
+}
+
 // Updates the group to these backends, rebuilds its slot, and notes what is selected then.
 fn rebuild<R: Abort + Wait>(
     rt: &R,
@@ -129,10 +143,9 @@ fn rebuild<R: Abort + Wait>(
     shared
         .update(rt, alloc, &found, &mut clock)
         .expect(rt, "refused");
-    let mut port = LockedPort::new(shared, rt);
     // The second turn destroys what the first one retired.
     for _ in 0..2 {
-        worker_turn(alloc, &mut port, 0, &mut clock).expect(rt, "refused");
+        turn(rt, alloc, shared, &mut clock);
     }
     let selected = group.select(rt, alloc, 0, b"k", 3).expect(rt, "refused");
     note(rt, text, &selected);

@@ -2,7 +2,7 @@
 use Rattle.std.proofs.Common.{◌∙◌, [], ◌∷◌, refl, subst}
 use Rattle.lb_background.specs.History.{heard, IsRun}
 use Rattle.lb_background.specs.Driven.{Acts, ActsUnlessShut, Reads}
-use Rattle.lb_balancer_group.proofs.DrivenLemmas.{has_begun}
+use Rattle.lb_background.proofs.DrivenLemmas.{has_begun}
 use Rattle.lb_balancer_group.proofs.drive.drive.Goals as goal
 
 pub loop-init : goal.loop-init

@@ -1,8 +1,8 @@
--- What was served at that moment is what some update left.
+-- The number was noted of what was served at that moment.
 use Rattle.std.proofs.Common.{◌∙◌}
 use Rattle.lb_balancer.proofs.Served.{known}
 use Rattle.lb_balancer.proofs.balancing.Balancing.generation.Goals as goal
 
-pub returns : goal.returns
-returns g c =
-    (c.take-held.result.value, known (c.self.invariant.0 ∙ c.self.view_is) c.take-held.ensures.fact, c.generation-generation.ensures)
+pub returns-in-Some : goal.returns-in-Some
+returns-in-Some g c =
+    let is = c.in-Some.ensures in (is.0, known (c.self.invariant.2 ∙ c.self.view_is) is.1, is.2)

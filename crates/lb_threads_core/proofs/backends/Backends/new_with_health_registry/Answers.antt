@@ -9,10 +9,12 @@ pub returns-in_err-view-clause-registered : goal.returns-in_err-view-clause-regi
 returns-in_err-view-clause-registered g c =
     let e = c.in_err-view.field-0.0 in
     let is : c.from_residual.result ≡ Err e = search rules in
-    err-of (search rules) (λ (v : ViewValue). v.id) (λ (h : ViewHandle g.row.D.Denot g.row.R.Denot). h.id) c.register.ensures.registered e
+    let registered = c.registered_view.ensures.registered in
+    err-of (search rules) (λ (v : ViewValue). v.id) (λ (h : ViewHandle g.row.D.Denot g.row.R.Denot). h.id) registered e
     c.in_err-view.was c.from_residual.result is
 
 pub returns-clause-registered : goal.returns-clause-registered
 returns-clause-registered g c =
-    behind-of (search rules) (λ (v : ViewValue). v.id) (λ (h : ViewHandle g.row.D.Denot g.row.R.Denot). h.id) c.register.ensures.registered
+    let registered = c.registered_view.ensures.registered in
+    behind-of (search rules) (λ (v : ViewValue). v.id) (λ (h : ViewHandle g.row.D.Denot g.row.R.Denot). h.id) registered
     c.in_ok-view.view c.in_ok-view.was c.behind.result c.behind.ensures.id c.behind.ensures.refused

@@ -1,6 +1,6 @@
 -- The registry has a view more, or is as before.
 use Rattle.lb_threads_core.proofs.Histories.{later, registered_later}
-use Rattle.lb_threads_core.proofs.backends.register.Goals as goal
+use Rattle.lb_threads_core.proofs.backends.registered_view.Goals as goal
 
 pub put-requires-clause-registry : goal.put-requires-clause-registry
 put-requires-clause-registry g c =
