@@ -7,8 +7,6 @@ use Rattle.lb_health_view.specs.declared.discovery.DiscoverySource.{DiscoverySou
 use Rattle.lb_health_view.specs.RegistrySide.{after_settings, with_membership}
 use Rattle.lb_health_view.specs.ViewEvents.{ViewEvent, Set, generation_after, membership_after}
 use Rattle.lb_health_view.specs.Views.{IsViewAfter}
-use Rattle.lb_health_core.specs.Registry.{RegistryValue}
-use Rattle.lb_balancer_core.specs.Balancer.{IsJudged}
 use Rattle.lb_balancer.specs.Shown.{ServingValue, ShownValue}
 
 -- what a caller knows of a balancer: its discovery, what its selectors are built with, and the generation at which it was made
@@ -48,12 +46,6 @@ module _ {D C : Type 0} (b : BalancerValue D C) where
     pub config : s.config ≡ b.config
     pub first : b.first ≤ s.generation
     pub discovered : AreDiscovered b.discovery s.generation s.members
-
-  -- Whether a backend is ready in the newest membership, by what the balancer served and some registry's state at that moment. Which
-  -- registry isn't said.
-  abbrev pub IsJudgedBy : {R : Type 0} → (R → Member → Member → Type 0) → Member → Bool → Type 0
-  IsJudgedBy {R} gives backend ready =
-      (s : ServingValue C) × IsServedBy s × ((x : RegistryValue R) × IsJudged gives s.view x backend ready)
 
   -- a call that was made at some state of what the balancer serves, and left one
   abbrev pub UnderServing : (ServingValue C → ServingValue C → Type 0) → Type 0

