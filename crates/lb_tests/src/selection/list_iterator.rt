@@ -4,9 +4,8 @@ ghost use Rattle.std.specs.Prelude.{◌≡◌, drop, option_and_then, slice_get}
 ghost use Rattle.std.specs.Option.{option_copied};
 ghost use Rattle.lb_tests.specs.ListWalks.{IsListWalk, IsListStep, list_starts, list_ends};
 
-use lb_select_base::backend::Backend;
-use lb_select_base::walk::BackendIter;
-use lb_select_base::words::WordSource;
+use pingora_load_balancing::selection::BackendIter;
+use pingora_load_balancing::{Backend, WordSource};
 
 /// What is left of a list of backends.
 #[derive(Drop)]
