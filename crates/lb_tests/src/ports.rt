@@ -3,13 +3,19 @@
 use crate::asserted::assert_same;
 use crate::balance::balancers::Rows;
 use crate::told::{Answer, DONE, Members, Ticks, Told, YES, always, is_at};
-use pingora_load_balancing::discovery::DiscoverySource;
-use pingora_load_balancing::plain::{GateCore, GroupCore, RegistryCore};
-use pingora_load_balancing::port::{
-    GroupPort, PlainPort, Turn, select_through, update_through, worker_turn,
-};
-use pingora_load_balancing::prelude::RoundRobin;
-use pingora_load_balancing::{Backend, Loads, Refusal};
+use lb_balancer_core::plain::PlainPort;
+use lb_balancer_core::port::GroupPort;
+use lb_balancer_core::select::select_through;
+use lb_balancer_core::turn::{Turn, worker_turn};
+use lb_balancer_core::update::update_through;
+use lb_health_core::registry::RegistryCore;
+use lb_health_view::discovery::DiscoverySource;
+use lb_rebuild_core::gate::GateCore;
+use lb_rebuild_core::group::GroupCore;
+use lb_select::selection::RoundRobin;
+use lb_select_base::backend::Backend;
+use lb_select_base::loads::Loads;
+use lb_select_base::refusal::Refusal;
 use rand_pcg::Pcg64;
 use std::alloc::Global;
 use std::process::Abort;

@@ -2,9 +2,12 @@
 ghost use Rattle.std.specs.Prelude.{◌≡◌};
 
 use crate::selection::fixtures::set_of;
-use pingora_load_balancing::discovery::{DiscoverySource, Static};
-use pingora_load_balancing::port::Turn;
-use pingora_load_balancing::{Backend, MomentSource, Refusal, UpdateTimings};
+use lb_balancer_core::timings::UpdateTimings;
+use lb_balancer_core::turn::Turn;
+use lb_health_view::discovery::{DiscoverySource, Static};
+use lb_select_base::backend::Backend;
+use lb_select_base::moments::MomentSource;
+use lb_select_base::refusal::Refusal;
 use std::alloc::Global;
 
 /// Backends by address and weight.

@@ -6,14 +6,20 @@ use crate::asserted::assert_same;
 use crate::balance::lent::disable;
 use crate::selection::fixtures::set_of;
 use crate::told::{Answer, DONE, NO, Told, YES, is_at};
+use lb_balancer_core::balancer_core::LoadBalancerCore;
+use lb_balancer_core::timings::UpdateTimings;
+use lb_health_core::error::CheckError;
+use lb_health_core::health_check::HealthCheck;
+use lb_health_core::registry::RegistryCore;
+use lb_health_view::discovery::{Discovered, DiscoverySource, ServiceDiscovery};
+use lb_health_view::view::Settings;
+use lb_select::least::LeastConnections;
+use lb_select::selection::Random;
+use lb_select_base::backend::{Backend, Ext, InetAddr, SocketAddr};
+use lb_select_base::moments::MomentSource;
+use lb_select_base::refusal::Refusal;
+use lb_select_base::walk::BackendSelection;
 use log::Log;
-use pingora_load_balancing::discovery::{Discovered, DiscoverySource, ServiceDiscovery, Settings};
-use pingora_load_balancing::health_check::{CheckError, HealthCheck};
-use pingora_load_balancing::plain::{LoadBalancerCore, RegistryCore};
-use pingora_load_balancing::selection::{BackendSelection, LeastConnections, Random};
-use pingora_load_balancing::{
-    Backend, Ext, InetAddr, MomentSource, Refusal, SocketAddr, UpdateTimings,
-};
 use rand_pcg::Pcg64;
 use std::alloc::Global;
 use std::cell::Cell;

@@ -2,11 +2,15 @@
 use crate::asserted::assert_same;
 use crate::balance::balancers::Rows;
 use crate::told::Ticks;
+use lb_balancer_core::group_core::LoadBalancerGroupCore;
+use lb_health_core::registry::RegistryCore;
+use lb_health_view::discovery::DiscoverySource;
+use lb_rebuild_core::answers::Ask;
 use lb_rebuild_core::endings::end_job;
-use pingora_load_balancing::Refusal;
-use pingora_load_balancing::discovery::DiscoverySource;
-use pingora_load_balancing::plain::{Ask, GateCore, LoadBalancerGroupCore, RegistryCore};
-use pingora_load_balancing::selection::{BackendSelection, LeastConnections};
+use lb_rebuild_core::gate::GateCore;
+use lb_select::least::LeastConnections;
+use lb_select_base::refusal::Refusal;
+use lb_select_base::walk::BackendSelection;
 use std::alloc::Global;
 use std::test::Fail;
 

@@ -2,11 +2,12 @@
 ghost use Rattle.std.specs.Prelude.{◌≡◌, ◌∷◌, false};
 ghost use Rattle.lb_balancer_core.specs.Balancer.{After, Set, Stands};
 
-use pingora_load_balancing::Backend;
-use pingora_load_balancing::discovery::ServiceDiscovery;
-use pingora_load_balancing::health_check::KeyRule;
-use pingora_load_balancing::plain::{LoadBalancerCore, Registry};
-use pingora_load_balancing::selection::BackendSelection;
+use lb_balancer_core::balancer_core::LoadBalancerCore;
+use lb_health_core::keys::KeyRule;
+use lb_health_core::registry::Registry;
+use lb_health_view::discovery::ServiceDiscovery;
+use lb_select_base::backend::Backend;
+use lb_select_base::walk::BackendSelection;
 use rand_pcg::Pcg64;
 
 /// Disables a backend of the balancer.

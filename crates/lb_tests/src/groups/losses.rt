@@ -4,11 +4,14 @@ ghost use Rattle.std.specs.Prelude.{◌≡◌};
 ghost use Rattle.lb_rebuild_core.specs.GroupStates.{SameSite};
 
 use crate::selection::fixtures::set_of;
+use lb_health_core::registry::RegistryCore;
+use lb_health_view::view::Settings;
+use lb_rebuild_core::answers::{Ask, Counts};
 use lb_rebuild_core::endings::end_job;
-use pingora_load_balancing::Refusal;
-use pingora_load_balancing::discovery::Settings;
-use pingora_load_balancing::plain::{Ask, Counts, GateCore, GroupCore, RegistryCore};
-use pingora_load_balancing::prelude::RoundRobin;
+use lb_rebuild_core::gate::GateCore;
+use lb_rebuild_core::group::GroupCore;
+use lb_select::selection::RoundRobin;
+use lb_select_base::refusal::Refusal;
 use std::alloc::Global;
 
 type Group = GroupCore<RoundRobin>;

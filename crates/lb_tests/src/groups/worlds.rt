@@ -1,8 +1,11 @@
 //! A world whose selectors draw at random: scripts hand no words to a selection, so these are calls.
 //! A selection of at most three candidates may draw four words.
-use pingora_load_balancing::selection::Random;
-use pingora_load_balancing::simulation::{Answer, CellKey, Listing, Step, World};
-use pingora_load_balancing::{Backend, Refusal};
+use lb_select::selection::Random;
+use lb_select_base::backend::Backend;
+use lb_select_base::refusal::Refusal;
+use lb_world::answer::Answer;
+use lb_world::step::{CellKey, Listing, Step};
+use lb_world::world::World;
 use std::alloc::Global;
 use std::test::Fail;
 

@@ -1,13 +1,16 @@
 //! What a caller boxes. A check that `new` makes goes into a box, which a pass takes as its check; so do an observer and a discovery.
 use crate::asserted::assert_same;
 use crate::health::passes::update_by;
-use log::Log;
-use pingora_load_balancing::Refusal;
-use pingora_load_balancing::discovery::{BoxedDiscovery, DiscoverySource, Static};
-use pingora_load_balancing::health_check::{
-    BoxedCheck, HealthCheck, HealthObserveCallback, IdentitySummary, NoObserver, TcpHealthCheck,
+use lb_health_core::health_check::{
+    BoxedCheck, HealthCheck, HealthObserveCallback, IdentitySummary,
 };
-use pingora_load_balancing::plain::{RegistryCore, ViewCore, run_health_check};
+use lb_health_core::registry::RegistryCore;
+use lb_health_http::{NoObserver, TcpHealthCheck};
+use lb_health_view::discovery::{BoxedDiscovery, DiscoverySource, Static};
+use lb_health_view::passes::run_health_check;
+use lb_health_view::view::ViewCore;
+use lb_select_base::refusal::Refusal;
+use log::Log;
 use std::alloc::Global;
 use std::test::Fail;
 

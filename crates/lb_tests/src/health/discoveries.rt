@@ -1,7 +1,8 @@
 //! Discoveries of texts: a set that stays, and texts that are refused.
 use crate::asserted::assert_same;
-use pingora_load_balancing::discovery::Static;
-use pingora_load_balancing::{Backend, Refusal};
+use lb_health_view::discovery::Static;
+use lb_select_base::backend::Backend;
+use lb_select_base::refusal::Refusal;
 use std::alloc::Global;
 use std::net::Net;
 

@@ -3,14 +3,17 @@
 use crate::asserted::{assert_row, assert_same};
 use crate::selection::fixtures::set_of;
 use crate::told::always;
+use lb_health_core::error::CheckError;
+use lb_health_core::health_check::{HealthCheck, identity_summary};
+use lb_health_core::keys::{ByNumber, Number};
+use lb_health_core::registry::RegistryCore;
+use lb_health_view::discovery::{Discovered, DiscoverySource, ServiceDiscovery};
+use lb_health_view::passes::run_health_check;
+use lb_health_view::view::{Settings, ViewCore};
+use lb_select_base::backend::{Backend, InetAddr, SocketAddr};
+use lb_select_base::refusal::Refusal;
 use log::sink::Memory;
 use log::{Level, Log, Logged};
-use pingora_load_balancing::discovery::{Discovered, DiscoverySource, ServiceDiscovery, Settings};
-use pingora_load_balancing::health_check::{
-    ByNumber, CheckError, HealthCheck, Number, identity_summary,
-};
-use pingora_load_balancing::plain::{RegistryCore, ViewCore, run_health_check};
-use pingora_load_balancing::{Backend, InetAddr, Refusal, SocketAddr};
 use std::alloc::Global;
 use std::cell::Cell;
 use std::collections::BTreeSet;

@@ -2,8 +2,11 @@
 use crate::asserted::assert_same;
 use crate::selection::fixtures::set_of;
 use crate::told::{Answer, DONE, Members, NO, Told, YES};
-use pingora_load_balancing::plain::{Health, RegistryCore, Target};
-use pingora_load_balancing::{Backend, Refusal};
+use lb_health_core::health::Health;
+use lb_health_core::registry::RegistryCore;
+use lb_health_core::targets::Target;
+use lb_select_base::backend::Backend;
+use lb_select_base::refusal::Refusal;
 use std::alloc::Global;
 use std::process::Abort;
 

@@ -1,9 +1,11 @@
 //! The worked rows of the runs: each event with its moment, and the action that it answers.
 use crate::asserted::assert_same;
-use pingora_load_balancing::Refusal;
-use pingora_load_balancing::schedule::{
-    Action, Event, GroupRun, LoadBalancerRun, Machine, ServiceRun,
-};
+use lb_background::balancer_run::LoadBalancerRun;
+use lb_background::event::{Action, Event};
+use lb_background::group_run::GroupRun;
+use lb_background::machine::Machine;
+use lb_background::service_run::ServiceRun;
+use lb_select_base::refusal::Refusal;
 use std::process::Abort;
 
 // A run of one of the three kinds.

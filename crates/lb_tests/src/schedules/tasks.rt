@@ -1,5 +1,5 @@
 //! The worked rows of schedules.
-use pingora_load_balancing::schedule::BackgroundSchedule;
+use lb_background::background::BackgroundSchedule;
 
 // When a schedule without a next moment is next: 4294967295 seconds later.
 const NEVER: u128 = 4294967295000000000;

@@ -2,9 +2,13 @@
 //! Each is noted by the backend's weight, as one more digit of a number.
 use crate::asserted::assert_same;
 use crate::selection::fixtures::{selector_of, set_of_weights, words_from, words_with};
-use pingora_load_balancing::prelude::RoundRobin;
-use pingora_load_balancing::selection::{BackendIter, BackendSelection, LeastConnections, select};
-use pingora_load_balancing::{Backend, CoreWords, Refusal, WordSource};
+use lb_select::least::LeastConnections;
+use lb_select::selection::RoundRobin;
+use lb_select_base::backend::Backend;
+use lb_select_base::refusal::Refusal;
+use lb_select_base::select::select;
+use lb_select_base::walk::{BackendIter, BackendSelection};
+use lb_select_base::words::{CoreWords, WordSource};
 use rand_pcg::Pcg64;
 use std::alloc::Global;
 use std::cell::Cell;

@@ -5,10 +5,13 @@ ghost use Rattle.lb_rebuild_core.specs.Stands.{SameSite};
 
 use crate::selection::fixtures::set_of;
 use crate::selection::noting::{Gone, Noting};
+use lb_rebuild_core::answers::Ask;
+use lb_rebuild_core::end_source::FixedMoment;
 use lb_rebuild_core::endings::{end_built, end_job, end_permit};
+use lb_rebuild_core::gate::GateCore;
+use lb_rebuild_core::job::FailedBuild;
 use lb_rebuild_core::slots::Slots;
-use pingora_load_balancing::Refusal;
-use pingora_load_balancing::plain::{Ask, FailedBuild, FixedMoment, GateCore};
+use lb_select_base::refusal::Refusal;
 use std::alloc::Global;
 use std::sync::Arc;
 use std::sync::atomic::{AtomicU64, Ordering};

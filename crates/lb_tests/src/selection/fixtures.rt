@@ -1,6 +1,8 @@
 //! What the tests make again and again: sets of backends, sources of words, and what walks and selections give.
-use pingora_load_balancing::selection::{BackendIter, BackendSelection};
-use pingora_load_balancing::{Backend, CoreWords, InetAddr, Refusal, SocketAddr, WordSource};
+use lb_select_base::backend::{Backend, InetAddr, SocketAddr};
+use lb_select_base::refusal::Refusal;
+use lb_select_base::walk::{BackendIter, BackendSelection};
+use lb_select_base::words::{CoreWords, WordSource};
 use rand_pcg::Pcg64;
 use std::alloc::Global;
 use std::collections::{BTreeMap, BTreeSet};

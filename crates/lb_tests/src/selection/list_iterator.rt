@@ -4,8 +4,9 @@ ghost use Rattle.std.specs.Prelude.{◌≡◌, drop, option_and_then, slice_get}
 ghost use Rattle.std.specs.Option.{option_copied};
 ghost use Rattle.lb_tests.specs.ListWalks.{IsListWalk, IsListStep, list_starts, list_ends};
 
-use pingora_load_balancing::selection::BackendIter;
-use pingora_load_balancing::{Backend, WordSource};
+use lb_select_base::backend::Backend;
+use lb_select_base::walk::BackendIter;
+use lb_select_base::words::WordSource;
 
 /// What is left of a list of backends.
 #[derive(Drop)]

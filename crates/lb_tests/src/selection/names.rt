@@ -1,9 +1,11 @@
 //! Printed values, a ring's configuration, an address to connect to, and selectors by their other names.
 //! The texts are those that Rust's derives write for these types.
 use crate::selection::fixtures::{is_text, push_address, set_of, walked, words_from};
-use pingora_load_balancing::selection::consistent::KetamaConfig;
-use pingora_load_balancing::selection::{BackendIter, BackendSelection, Consistent, FVNHash};
-use pingora_load_balancing::{Backend, Refusal};
+use lb_select::ketama::{Consistent, KetamaConfig};
+use lb_select::selection::FVNHash;
+use lb_select_base::backend::Backend;
+use lb_select_base::refusal::Refusal;
+use lb_select_base::walk::{BackendIter, BackendSelection};
 use std::alloc::Global;
 use std::fmt::Debug;
 use std::net::Net;

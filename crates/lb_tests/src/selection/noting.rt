@@ -8,10 +8,13 @@ ghost use Rattle.lb_select_base.specs.Draws.{IsNotRandom};
 ghost use Rattle.lb_select.specs.WeightLaws.{Each-words, few_words, rest_none, rest_ends};
 ghost use Rattle.lb_select.specs.Weights.{weighted_refusal, IsWeightedRest, IsWeightedWalk};
 
+use lb_select::selection::RoundRobin;
 use lb_select::weighted::{WeightedIterator, WeightedWalk};
-use pingora_load_balancing::prelude::RoundRobin;
-use pingora_load_balancing::selection::{BackendSelection, algorithms};
-use pingora_load_balancing::{Backend, Refusal, WordSource};
+use lb_select_base::algorithms;
+use lb_select_base::backend::Backend;
+use lb_select_base::refusal::Refusal;
+use lb_select_base::walk::BackendSelection;
+use lb_select_base::words::WordSource;
 use std::alloc::Global;
 use std::collections::BTreeSet;
 use std::marker::Model;

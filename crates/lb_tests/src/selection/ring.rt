@@ -2,8 +2,9 @@
 use crate::asserted::assert_row;
 use crate::selection::fixtures::is_text;
 use lb_select::crc::crc32;
-use pingora_load_balancing::selection::consistent::Ring;
-use pingora_load_balancing::{Backend, Refusal, SocketAddr};
+use lb_select::ring::Ring;
+use lb_select_base::backend::{Backend, SocketAddr};
+use lb_select_base::refusal::Refusal;
 use std::alloc::Global;
 
 fn address(alloc: Global, text: &str) -> Result<SocketAddr, Refusal> {

@@ -3,9 +3,12 @@
 use crate::asserted::assert_row;
 use crate::selection::fixtures::{is_text, push_address, selector_of, set_of, words_from};
 use crate::selection::list_iterator::ListIterator;
-use pingora_load_balancing::prelude::RoundRobin;
-use pingora_load_balancing::selection::{BackendIter, BackendSelection, UniqueIterator};
-use pingora_load_balancing::{Backend, CoreWords, Refusal};
+use lb_select::selection::RoundRobin;
+use lb_select_base::backend::Backend;
+use lb_select_base::refusal::Refusal;
+use lb_select_base::unique::UniqueIterator;
+use lb_select_base::walk::{BackendIter, BackendSelection};
+use lb_select_base::words::CoreWords;
 use rand_pcg::Pcg64;
 use std::alloc::Global;
 use std::sync::Arc;

@@ -1,9 +1,9 @@
 //! Walks of weighted selectors at worked values, which come from the rules of FNV-1a and of the walks.
 use crate::asserted::assert_row;
 use crate::selection::fixtures::{is_text, set_of, walked, words_from};
-use pingora_load_balancing::prelude::RoundRobin;
-use pingora_load_balancing::selection::FNVHash;
-use pingora_load_balancing::{CoreWords, Refusal};
+use lb_select::selection::{FNVHash, RoundRobin};
+use lb_select_base::refusal::Refusal;
+use lb_select_base::words::CoreWords;
 use rand_pcg::Pcg64;
 use std::alloc::Global;
 

@@ -1,7 +1,11 @@
 //! Random words that select, and the words that threads share, as one thread draws them.
 use crate::selection::fixtures::{selector_of, set_of, words_from};
-use pingora_load_balancing::selection::{BackendIter, BackendSelection, Random, select};
-use pingora_load_balancing::{Backend, CoreWords, Refusal, SharedWords, WordSource};
+use lb_select::selection::Random;
+use lb_select_base::backend::Backend;
+use lb_select_base::refusal::Refusal;
+use lb_select_base::select::select;
+use lb_select_base::walk::{BackendIter, BackendSelection};
+use lb_select_base::words::{CoreWords, SharedWords, WordSource};
 use rand_pcg::Pcg64;
 use std::alloc::Global;
 use std::sync::Arc;

@@ -2,8 +2,10 @@
 use crate::selection::fixtures::{
     is_text, numbered, push_walk, selector_of, set_of_weights, words_with,
 };
-use pingora_load_balancing::selection::{BackendSelection, LeastConnections};
-use pingora_load_balancing::{CoreWords, Refusal};
+use lb_select::least::LeastConnections;
+use lb_select_base::refusal::Refusal;
+use lb_select_base::walk::BackendSelection;
+use lb_select_base::words::CoreWords;
 use rand_pcg::Pcg64;
 use std::alloc::Global;
 use std::sync::Arc;

@@ -1,9 +1,9 @@
 //! The search of partial sums at worked places, counted out over the list that the sums mean: each backend as often as it weighs.
 use crate::asserted::assert_same;
 use crate::selection::fixtures::set_of_weights;
-use pingora_load_balancing::Refusal;
-use pingora_load_balancing::prelude::RoundRobin;
-use pingora_load_balancing::selection::BackendSelection;
+use lb_select::selection::RoundRobin;
+use lb_select_base::refusal::Refusal;
+use lb_select_base::walk::BackendSelection;
 use std::alloc::Global;
 
 // The backend at a place below the total, if that takes at most so many probes.
