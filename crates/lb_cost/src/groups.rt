@@ -47,7 +47,7 @@ struct Plan {
 
 // A check that fails once in so many calls: one backend's, in about each second pass.
 #[derive(Drop)]
-struct Flipping {
+pub(crate) struct Flipping {
     calls: AtomicU64,
     period: u64,
 }
@@ -68,7 +68,7 @@ impl HealthCheck for Flipping {
 }
 
 // The group that is measured.
-type Group<S> = LoadBalancerGroup<S, Halves, Rule<NoRule>, Flipping>;
+pub(crate) type Group<S> = LoadBalancerGroup<S, Halves, Rule<NoRule>, Flipping>;
 
 // Whether a backend is selected.
 fn is_ready(_backend: &Backend, ready: bool) -> bool {
@@ -188,41 +188,41 @@ fn changed<S: BackendSelection, R: Log + Threads + Wait + Clock + Copy + Sync>(
     Ok(())
 }
 
-// Waits until the slot serves the newest generation, a minute at most.
-fn awaited<S: BackendSelection, R: Wait + Clock>(rt: &R, group: &Group<S>) {
-    for _ in 0..60_000 {
+/// Waits until all slots serve the newest generation, a minute at most.
+pub(crate) fn awaited<S: BackendSelection, R: Wait + Clock>(rt: &R, group: &Group<S>) {
+    for _ in 0..600_000 {
         if group.selectors_ready_for(rt, group.backend_generation(rt)) {
             return;
         }
-        thread::sleep(rt, Duration::from_millis(1));
+        thread::sleep(rt, Duration::from_micros(100));
     }
 }
 
-// A group of one slot over so many backends, whose worker runs; it is updated once, and served.
-fn made<
+/// Returns a group of so many slots over so many backends, whose workers run; it is updated once, and served.
+pub(crate) fn made<
     S: BackendSelection + Send + Sync + 'static,
     R: Log + Threads + Wait + Clock + Copy + Send + Sync + 'static,
->(rt: &R, alloc: Global, plan: Plan) -> Result<Group<S>, Refusal>
+>(rt: &R, alloc: Global, backends: u32, slots: u32) -> Result<Group<S>, Refusal>
 where
     S::Iter: Send + Sync + 'static,
     S::Config: Send + Sync + 'static,
     S::Walk: Send + Sync + 'static,
 {
     let discovery = Halves {
-        backends: plan.backends,
+        backends,
         turn: AtomicU64::new(0),
     };
-    let backends = Backends::new(rt, alloc, DiscoverySource::Boxed(discovery))?;
+    let found = Backends::new(rt, alloc, DiscoverySource::Boxed(discovery))?;
     let mut configs = Vec::new(alloc);
-    configs.push(None)?;
-    let group: Group<S> = LoadBalancerGroup::from_backends_with_configs(
-        rt, alloc, backends, configs,
-    )?;
+    for _ in 0..slots {
+        configs.push(None)?;
+    }
+    let group: Group<S> = LoadBalancerGroup::from_backends_with_configs(rt, alloc, found, configs)?;
     group.set_health_check(
         rt,
         Flipping {
             calls: AtomicU64::new(0),
-            period: u64::from(plan.backends).saturating_mul(2).max(1),
+            period: u64::from(backends).saturating_mul(2).max(1),
         },
     )?;
     let mut clock = RuntimeClock::new(*rt);
@@ -242,7 +242,7 @@ where
     S::Config: Send + Sync + 'static,
     S::Walk: Send + Sync + 'static,
 {
-    let group: Group<S> = made(rt, alloc, plan)?;
+    let group: Group<S> = made(rt, alloc, plan.backends, 1)?;
     let mut handles = Vec::new(alloc);
     for worker in 0..plan.threads {
         let number = u64::from(worker);

@@ -10,6 +10,7 @@ mod health;
 mod members;
 mod passes;
 mod process;
+mod rebuilds;
 mod refused;
 mod refused_passes;
 mod refused_subjects;
@@ -53,6 +54,7 @@ fn measure<
         "group" => group::run(rt, alloc, numbers),
         "groups" => groups::run(rt, alloc, numbers),
         "health" => health::run(rt, alloc, numbers),
+        "rebuilds" => rebuilds::run(rt, alloc, numbers),
         "refused" => refused::run(rt, alloc),
         "selects" => selects::run(rt, alloc),
         "shared" => shared::run(rt, alloc, numbers),
@@ -85,6 +87,7 @@ fn measure_all<
     selects::few(rt, alloc)?;
     shared::run(rt, alloc, &[])?;
     groups::run(rt, alloc, &[])?;
+    rebuilds::run(rt, alloc, &[])?;
     soak::run(rt, alloc, &[])
 }
 

@@ -11,8 +11,8 @@ mod turns;
 mod waking;
 
 use lb_crowd::crowd::{Crowd, Registry};
-use lb_threads_core::registry::HealthRegistry;
 use log::Log;
+use pingora_load_balancing::HealthRegistry;
 use std::alloc::Global;
 use std::process::Abort;
 use std::sync::{Arc, Wait};

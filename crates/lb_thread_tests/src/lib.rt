@@ -14,6 +14,8 @@ mod groups;
 #[cfg(test)]
 mod locks;
 #[cfg(test)]
+mod noted;
+#[cfg(test)]
 mod registries;
 #[cfg(test)]
 mod service_fixtures;

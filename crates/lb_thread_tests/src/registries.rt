@@ -1,9 +1,7 @@
 //! Registries that threads share: by which rule backends share a cell, how cells begin, and views whose owners are dropped.
 
-use lb_health_core::health_check::BoxedCheck;
-use lb_health_core::keys::KeyRule;
-use lb_select_base::backend::Backend;
-use lb_threads_core::registry::HealthRegistry;
+use pingora_load_balancing::health_check::{BoxedCheck, KeyRule};
+use pingora_load_balancing::{Backend, HealthRegistry};
 use std::alloc::Global;
 use std::collections::BTreeSet;
 use std::process::Abort;

@@ -1,11 +1,10 @@
 //! Services that run, while another thread sends the end.
 use crate::ends::{Ends, send_end};
 use crate::service_fixtures::{Checked, ServiceBench, Ticks, counted, one_backend, registry_of};
-use lb_background::ready::ReadyWatch;
-use lb_background::shutdown::ShutdownSignal;
-use lb_select_base::refusal::Refusal;
 use log::sink::Locked;
 use log::{Level, Log, Logged};
+use pingora_load_balancing::Refusal;
+use pingora_load_balancing::background::{ReadyWatch, ShutdownSignal};
 use std::alloc::Global;
 use std::collections::BTreeSet;
 use std::process::Abort;

@@ -1,8 +1,8 @@
 //! Selections during updates and checks, in threads.
 use crate::balancer::fixtures::{Bench, GROWN, ROWS, is_second, waited};
-use lb_select::selection::RoundRobin;
-use lb_select_base::backend::Backend;
 use log::Log;
+use pingora_load_balancing::Backend;
+use pingora_load_balancing::prelude::RoundRobin;
 use std::process::Abort;
 use std::sync::Wait;
 use std::sync::atomic::Ordering::SeqCst;

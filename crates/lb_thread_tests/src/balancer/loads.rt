@@ -1,20 +1,12 @@
 //! Loads that are set while threads select: what goes by them, and that no selection holds their lock while it asks. Those of a group too.
 use crate::balancer::fixtures::{Bench, InTurn, SecondDown, listed, note};
 use crate::service_fixtures::Ticks;
-use lb_balancer::reader::BalancerReader;
-use lb_balancer_core::turn::worker_turn;
-use lb_balancer_group::group::LoadBalancerGroup;
 use lb_crowd::crowd::NoCheck;
-use lb_health_core::health_check::HealthCheck;
-use lb_health_core::keys::{KeyRule, Rule};
-use lb_health_view::discovery::{DiscoverySource, Static};
-use lb_select::least::LeastConnections;
-use lb_select_base::backend::Backend;
-use lb_select_base::walk::BackendSelection;
-use lb_threads_core::backends::Backends;
-use lb_threads_core::keyed::NoRule;
-use lb_threads_group::group::SharedGroup;
-use lb_threads_group::port::LockedPort;
+use pingora_load_balancing::discovery::{DiscoverySource, Static};
+use pingora_load_balancing::health_check::{HealthCheck, KeyRule, NoRule, Rule};
+use pingora_load_balancing::port::{LockedPort, worker_turn};
+use pingora_load_balancing::selection::{BackendSelection, LeastConnections};
+use pingora_load_balancing::{Backend, Backends, BalancerReader, LoadBalancerGroup, SharedGroup};
 use std::alloc::Global;
 use std::process::Abort;
 use std::sync::Wait;

@@ -3,8 +3,8 @@
 use super::TURNS;
 use lb_crowd::counted::Counts;
 use lb_crowd::crowd::{Crowd, Group, crowd_in, ends, is_free, select_one, serves};
-use lb_threads_core::clock::RuntimeClock;
 use log::Log;
+use pingora_load_balancing::background::RuntimeClock;
 use std::alloc::Global;
 use std::process::Abort;
 use std::sync::Wait;

@@ -1,10 +1,9 @@
 //! What handles of groups answer: before their first update, after it, and once a worker was missing.
 use super::TURNS;
-use lb_balancer_group::start::start_workers_by;
 use lb_crowd::crowd::{Group, Handle};
-use lb_select_base::backend::Backend;
-use lb_threads_core::clock::RuntimeClock;
 use log::Log;
+use pingora_load_balancing::Backend;
+use pingora_load_balancing::background::{RuntimeClock, start_workers_by};
 use std::alloc::Global;
 use std::process::Abort;
 use std::sync::Wait;

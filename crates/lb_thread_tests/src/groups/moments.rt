@@ -2,17 +2,13 @@
 ghost use Rattle.std.specs.Prelude.{◌≡◌};
 
 use crate::groups::turns::too_heavy;
-use lb_balancer_core::turn::{Turn, worker_turn};
 use lb_crowd::crowd::{Crowd, crowd_in, one_backend};
-use lb_health_core::health_check::HealthCheck;
-use lb_health_core::keys::KeyRule;
-use lb_rebuild_core::answers::Timing;
-use lb_select_base::moments::MomentSource;
-use lb_select_base::refusal::Refusal;
-use lb_select_base::walk::BackendSelection;
-use lb_threads_group::group::SharedGroup;
-use lb_threads_group::port::LockedPort;
 use log::Log;
+use pingora_load_balancing::health_check::{HealthCheck, KeyRule};
+use pingora_load_balancing::plain::Timing;
+use pingora_load_balancing::port::{LockedPort, Turn, worker_turn};
+use pingora_load_balancing::selection::BackendSelection;
+use pingora_load_balancing::{MomentSource, Refusal, SharedGroup};
 use std::alloc::Global;
 use std::process::Abort;
 use std::sync::Wait;

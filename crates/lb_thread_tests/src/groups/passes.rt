@@ -4,10 +4,9 @@ ghost use Rattle.std.specs.Arc.{arc_value};
 
 use super::TURNS;
 use lb_crowd::crowd::Handle;
-use lb_rebuild::board::GroupPass;
-use lb_select_base::backend::Backend;
-use lb_threads_core::clock::RuntimeClock;
 use log::Log;
+use pingora_load_balancing::background::RuntimeClock;
+use pingora_load_balancing::{Backend, GroupPass};
 use std::alloc::Global;
 use std::process::Abort;
 use std::sync::Wait;

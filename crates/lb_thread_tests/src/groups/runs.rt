@@ -1,23 +1,19 @@
 //! Runs of a group in the background. Some are shut down in the middle of an update, of a check, and of a build: what is under way goes on
 //! to its end, and what it did is kept. The last one updates again and again, and is shut down once its slots serve what was found.
 use super::TURNS;
-use lb_background::ready::{ReadyWatch, ServiceReadyNotifier, ready_pair};
-use lb_background::shutdown::{ShutdownSignal, ShutdownWatch, shutdown_pair};
-use lb_balancer_group::gate_refusal::GateRefusal;
-use lb_balancer_group::group::LoadBalancerGroup;
+use crate::noted::Noted;
 use lb_crowd::counted::{Counted, Counting, Counts};
 use lb_crowd::crowd::serves;
-use lb_health_core::error::CheckError;
-use lb_health_core::health_check::HealthCheck;
-use lb_health_core::keys::Rule;
-use lb_health_view::discovery::{Discovered, DiscoverySource, ServiceDiscovery};
-use lb_health_view::view::Settings;
-use lb_select_base::backend::Backend;
-use lb_select_base::refusal::Refusal;
-use lb_threads_core::backends::Backends;
-use lb_threads_core::clock::RuntimeClock;
-use lb_threads_core::gate::SelectorRebuildGate;
-use lb_threads_core::keyed::NoRule;
+use log::{Level, Logged};
+use pingora_load_balancing::background::{
+    ReadyWatch, RuntimeClock, ServiceReadyNotifier, ShutdownSignal, ShutdownWatch, ready_pair,
+    shutdown_pair,
+};
+use pingora_load_balancing::discovery::{Discovered, DiscoverySource, ServiceDiscovery, Settings};
+use pingora_load_balancing::health_check::{CheckError, HealthCheck, NoRule, Rule};
+use pingora_load_balancing::{
+    Backend, Backends, GateRefusal, LoadBalancerGroup, Refusal, SelectorRebuildGate,
+};
 use std::alloc::Global;
 use std::collections::BTreeSet;
 use std::process::Abort;
@@ -251,10 +247,12 @@ fn end_after<W: Clock>(
 // Runs that are shut down in their update, in their check, and while they wait for a build that is held. An update goes on to its end,
 // and its membership is kept. So does a check, and its verdict is kept. A build doesn't hold up the end; it is ended, and served. No
 // notifier is notified. Then a run that updates again and again: its notifier is notified once what it found is served, and an update
-// that is refused doesn't end it.
+// that is refused is logged and doesn't end it.
 #[test]
 fn what_is_under_way_is_let_end(rt: HostRuntime) {
     let alloc = rt.alloc();
+    let noted = Noted::new(rt, alloc);
+    let logged = Logged::new(rt, Level::Error, noted);
     let mut bench = Bench::new(rt, alloc);
     for (updates, checks, builds, is_told) in [
         (1, 0, 1, false),
@@ -274,7 +272,7 @@ fn what_is_under_way_is_let_end(rt: HostRuntime) {
         let (came, _) = join(
             &rt,
             || end_after(counts, calls, &ready, wanted, signal),
-            || group.run(&rt, alloc, &mut clock, watch, Some(notifier)),
+            || group.run(&logged, alloc, &mut clock, watch, Some(notifier)),
         );
         let left = Left {
             updates,
@@ -289,4 +287,6 @@ fn what_is_under_way_is_let_end(rt: HostRuntime) {
             (true, left)
         );
     }
+    let said = "[ERROR lb_balancer_group::running] load balancer group update failed: Discovery\n";
+    assert!(rt; noted.said(said));
 }

@@ -1,17 +1,13 @@
 //! Readers that stay in what their slot retired, by calls: they hold up each rebuild on their gate, also in a cancelled group, and what
 //! they are in is destroyed once they have left. A selection in a lane goes on while the registry's lock is held.
 use crate::groups::turns::{turn, update};
-use lb_balancer_core::port::{GroupPort, TakesBack};
-use lb_balancer_core::turn::Turn;
 use lb_crowd::crowd::{Registry, select_one};
-use lb_health_core::health_check::HealthCheck;
-use lb_health_core::keys::KeyRule;
-use lb_rebuild_core::answers::Counts;
-use lb_select_base::refusal::Refusal;
-use lb_select_base::walk::BackendSelection;
 use lb_threads_core::registry::{put_registry, take_registry};
-use lb_threads_group::group::SharedGroup;
-use lb_threads_group::port::LockedPort;
+use pingora_load_balancing::health_check::{HealthCheck, KeyRule};
+use pingora_load_balancing::plain::Counts;
+use pingora_load_balancing::port::{GroupPort, LockedPort, TakesBack, Turn};
+use pingora_load_balancing::selection::BackendSelection;
+use pingora_load_balancing::{Refusal, SharedGroup};
 use std::alloc::Global;
 use std::process::Abort;
 use std::sync::Wait;

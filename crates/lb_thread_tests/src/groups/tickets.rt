@@ -1,14 +1,11 @@
 //! Each built selector has a counter of tickets of its own, which begins at 0; a reader of a retired selector goes on in that one's.
 use crate::groups::turns::{Still, turn};
-use lb_balancer_core::turn::Turn;
 use lb_crowd::crowd::select_one;
-use lb_health_core::health_check::HealthCheck;
-use lb_health_core::keys::KeyRule;
-use lb_health_view::discovery::{DiscoverySource, Static};
-use lb_select_base::backend::Backend;
-use lb_select_base::refusal::Refusal;
-use lb_select_base::walk::BackendSelection;
-use lb_threads_group::group::SharedGroup;
+use pingora_load_balancing::discovery::{DiscoverySource, Static};
+use pingora_load_balancing::health_check::{HealthCheck, KeyRule};
+use pingora_load_balancing::port::Turn;
+use pingora_load_balancing::selection::BackendSelection;
+use pingora_load_balancing::{Backend, Refusal, SharedGroup};
 use std::alloc::Global;
 use std::collections::BTreeSet;
 use std::process::Abort;

@@ -1,18 +1,13 @@
 //! Turns that the caller's thread takes for slots of groups on one gate, and their workers' last ones.
-use lb_balancer_core::turn::{Turn, worker_turn};
 use lb_crowd::crowd::{one_backend, select_one};
-use lb_health_core::health_check::HealthCheck;
-use lb_health_core::keys::KeyRule;
-use lb_health_view::discovery::{DiscoverySource, Static};
-use lb_select_base::backend::Backend;
-use lb_select_base::moments::MomentSource;
-use lb_select_base::refusal::Refusal;
-use lb_select_base::walk::BackendSelection;
-use lb_threads_group::group::SharedGroup;
-use lb_threads_group::port::LockedPort;
-use lb_threads_group::workers::work;
 use log::sink::Locked;
 use log::{Level, Log, Logged};
+use pingora_load_balancing::background::work;
+use pingora_load_balancing::discovery::{DiscoverySource, Static};
+use pingora_load_balancing::health_check::{HealthCheck, KeyRule};
+use pingora_load_balancing::port::{LockedPort, Turn, worker_turn};
+use pingora_load_balancing::selection::BackendSelection;
+use pingora_load_balancing::{Backend, MomentSource, Refusal, SharedGroup};
 use std::alloc::Global;
 use std::collections::BTreeSet;
 use std::process::Abort;
