@@ -272,7 +272,7 @@ fn what_is_under_way_is_let_end(rt: HostRuntime) {
         let (came, _) = join(
             &rt,
             || end_after(counts, calls, &ready, wanted, signal),
-            || group.run(&logged, alloc, &mut clock, watch, Some(notifier)),
+            move || group.run(&logged, alloc, &mut clock, watch, Some(notifier)),
         );
         let left = Left {
             updates,
