@@ -2,10 +2,10 @@
 ghost use Rattle.std.specs.Prelude.{◌≡◌, Err, IfOk, OnErr};
 ghost use Rattle.std.specs.Arc.{arc_value};
 ghost use Rattle.lb_health_core.specs.Registry.{IsGrowthRefusal};
-ghost use Rattle.lb_rebuild_core.specs.SlotsHistory.{newest};
-ghost use Rattle.lb_rebuild_core.specs.GroupHistory.{slot_events, members_now};
+ghost use Rattle.lb_rebuild_core.specs.GroupHistory.{members_now};
 ghost use Rattle.lb_rebuild_core.specs.GroupStates.{After};
 ghost use Rattle.lb_threads_group.specs.Group.{FlaggedUnder, NewestReadyUnder, Seen};
+ghost use Rattle.lb_threads_group.specs.Numbers.{SawNewest};
 
 use crate::configured::Configured;
 use crate::group::LoadBalancerGroup;
@@ -57,7 +57,7 @@ impl<
 > SharedBackends<'g, S, D, R, C> {
     /// Returns the newest generation; 0 before the first membership.
     pub fn generation<W: Wait>(&self, rt: &W) -> u64
-        ensures { Seen (arc_value self.now.group.now.shared).core (λ v. After v (λ made e. result ≡ newest (slot_events e))) }
+        ensures { SawNewest (arc_value self.now.group.now.shared).core result }
     {
         self.group.backend_generation(rt)
     }

@@ -1,13 +1,14 @@
-//! Readings of a group that its users own. Each call takes the group's lock once for each slot that it reads.
+//! Readings of a group that its users own. Generations and counts of slots are single loads, once they were changed or read.
 ghost use Rattle.std.specs.Prelude.{◌≡◌, ◌+◌, MatchBool};
 ghost use Rattle.std.specs.Arc.{arc_value};
 ghost use Rattle.lb_rebuild_core.specs.SlotsCalls.{at_slot};
-ghost use Rattle.lb_rebuild_core.specs.SlotsHistory.{past_of, newest, is_cancelled, coalesced, failed, timing as timing_after};
+ghost use Rattle.lb_rebuild_core.specs.SlotsHistory.{past_of, is_cancelled, coalesced, failed, served, timing as timing_after};
 ghost use Rattle.lb_rebuild_core.specs.GroupHistory.{slot_events};
 ghost use Rattle.lb_rebuild_core.specs.GroupStates.{After};
 ghost use Rattle.lb_threads_group.specs.Group.{Seen};
+ghost use Rattle.lb_threads_group.specs.Numbers.{SawNewest, SawOfSlot};
 ghost use Rattle.lb_balancer_core.specs.Timings.{last_timing};
-ghost use Rattle.lb_balancer_group.specs.Readiness.{AllServe, OneLags, SawServed};
+ghost use Rattle.lb_balancer_group.specs.Readiness.{AllServe, OneLags};
 
 use crate::configured::Configured;
 use crate::group::LoadBalancerGroup;
@@ -42,7 +43,7 @@ impl<
 
     /// Returns the newest generation of the backends; 0 before the first membership.
     pub fn backend_generation<W: Wait>(&self, rt: &W) -> u64
-        ensures { Seen (arc_value self.now.shared).core (λ v. After v (λ made e. result ≡ newest (slot_events e))) }
+        ensures { SawNewest (arc_value self.now.shared).core result }
     {
         let shared: &SharedGroup<Configured<S>, R, C> = &*self.shared;
         shared.backend_generation(rt)
@@ -58,7 +59,7 @@ impl<
 
     /// Returns the generation that a slot serves, or `None` where no such slot is there.
     pub fn selector_generation<W: Wait>(&self, rt: &W, slot: usize) -> Option<u64>
-        ensures { SawServed (arc_value self.now.shared).core slot result }
+        ensures { SawOfSlot served (arc_value self.now.shared).core slot result }
     {
         let shared: &SharedGroup<Configured<S>, R, C> = &*self.shared;
         shared.selector_generation(rt, slot)
@@ -110,22 +111,18 @@ impl<
 
     /// Returns how many memberships came while an earlier one waited in a slot, or `None` where no such slot is there.
     pub fn selector_coalesced_rebuilds<W: Wait>(&self, rt: &W, slot: usize) -> Option<u64>
-        ensures { Seen (arc_value self.now.shared).core (λ v. After v
-            (λ made e. result ≡ at_slot made slot (coalesced (past_of slot (slot_events e))))) }
+        ensures { SawOfSlot coalesced (arc_value self.now.shared).core slot result }
     {
         let shared: &SharedGroup<Configured<S>, R, C> = &*self.shared;
-        let counts = shared.selector_counts(rt, slot)?;
-        Some(counts.coalesced)
+        shared.selector_coalesced(rt, slot)
     }
 
     /// Returns how many builds of a slot failed, up to 18446744073709551615, or `None` where no such slot is there.
     pub fn selector_failed_rebuilds<W: Wait>(&self, rt: &W, slot: usize) -> Option<u64>
-        ensures { Seen (arc_value self.now.shared).core (λ v. After v
-            (λ made e. result ≡ at_slot made slot (failed (past_of slot (slot_events e))))) }
+        ensures { SawOfSlot failed (arc_value self.now.shared).core slot result }
     {
         let shared: &SharedGroup<Configured<S>, R, C> = &*self.shared;
-        let counts = shared.selector_counts(rt, slot)?;
-        Some(counts.failed)
+        shared.selector_failed(rt, slot)
     }
 
     /// Returns how long the last accepted update took; `None` before the first.

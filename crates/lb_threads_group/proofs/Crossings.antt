@@ -21,8 +21,10 @@ use Rattle.lb_threads_core.proofs.lanes.Lanes.TheSendSync as lanes
 use Rattle.lb_rebuild_core.specs.contracts.place.SlotPlace as place
 use Rattle.lb_rebuild_core.specs.contracts.retired.Reader as reader
 use Rattle.lb_threads_group.proofs.group.SlotCounters.TheSendSync as line
+use Rattle.lb_threads_group.proofs.group.Marks.TheSendSync as marks
 use Rattle.lb_threads_group.proofs.found.Tickets.TheSendSync as tickets
 use Rattle.lb_threads_core.proofs.words.KeyedWords.TheSendSync as keyed
+use Rattle.lb_threads_core.proofs.numbers.KeyedNumbers.TheSendSync as numbered
 use Rattle.lb_threads_group.specs.contracts.found.Found as found
 use Rattle.lb_threads_group.specs.contracts.found.Found.TheInside as found_inside
 use Rattle.lb_threads_group.specs.contracts.found.Subject as subject
@@ -128,7 +130,7 @@ module _ (T R H I C W : RattleType) (g : Selection T.Denot I.Denot C.Denot W.Den
                   (
                     search (sendable, crosses, line.the_send) depth 20,
                     (
-                      search (sendable, crosses) depth 20,
+                      search (sendable, crosses, marks.the_send) depth 20,
                       (
                         search (sendable, site_send) depth 20,
                         (
@@ -138,14 +140,8 @@ module _ (T R H I C W : RattleType) (g : Selection T.Denot I.Denot C.Denot W.Den
                             (
                               search (sendable, crosses, lock.the_send, lock.the_field_send, slot_words_send, slot_words_sync) depth 20,
                               (
-                                search (sendable, crosses) depth 20,
-                                (
-                                  search (sendable, crosses) depth 20,
-                                  (
-                                    search (sendable, crosses) depth 20,
-                                    (search (sendable, crosses, generators.the_send, generators.the_sync) depth 20, tt),
-                                  ),
-                                ),
+                                search (sendable, crosses, generators.the_send, generators.the_sync) depth 20,
+                                (search (sendable, crosses, numbered.the_field_send) depth 30, tt),
                               ),
                             ),
                           ),
@@ -177,7 +173,7 @@ module _ (T R H I C W : RattleType) (g : Selection T.Denot I.Denot C.Denot W.Den
                   (
                     search (sendable, crosses, line.the_sync) depth 20,
                     (
-                      search (sendable, crosses) depth 20,
+                      search (sendable, crosses, marks.the_sync) depth 20,
                       (
                         search (sendable, site_sync) depth 20,
                         (
@@ -187,14 +183,8 @@ module _ (T R H I C W : RattleType) (g : Selection T.Denot I.Denot C.Denot W.Den
                             (
                               search (sendable, crosses, lock.the_sync, lock.the_field_sync, slot_words_send, slot_words_sync) depth 20,
                               (
-                                search (sendable, crosses) depth 20,
-                                (
-                                  search (sendable, crosses) depth 20,
-                                  (
-                                    search (sendable, crosses) depth 20,
-                                    (search (sendable, crosses, generators.the_send, generators.the_sync) depth 20, tt),
-                                  ),
-                                ),
+                                search (sendable, crosses, generators.the_send, generators.the_sync) depth 20,
+                                (search (sendable, crosses, numbered.the_field_sync) depth 30, tt),
                               ),
                             ),
                           ),

@@ -1,5 +1,6 @@
-pub mod Sites
-pub mod Entries
 pub mod Crossings
-pub mod Releases
+pub mod Entries
+pub mod NumberLemmas
 pub mod Readiness
+pub mod Releases
+pub mod Sites

@@ -1,4 +1,5 @@
 pub mod Found
 pub mod Group
 pub mod Kept
+pub mod Numbers
 pub mod Shared

@@ -264,12 +264,12 @@ impl<S: BackendSelection, R: KeyRule + Drop, C: HealthCheck + Drop> SharedGroup<
     // How often what is ready may have changed.
     pub(crate) fn changes_so_far(&self) -> u64 {
         let registry = self.registry.changes();
-        self.changes.load(SeqCst).wrapping_add(registry) % CHANGES
+        self.marks.changes.load(SeqCst).wrapping_add(registry) % CHANGES
     }
 
     // Notes that what is ready may have changed, but for the registry.
     pub(crate) fn note_change(&self) {
-        self.changes.fetch_add(1, SeqCst);
+        self.marks.changes.fetch_add(1, SeqCst);
     }
 
     // The lock of a slot's words.

@@ -7,6 +7,7 @@ ghost use Rattle.lb_threads_group.specs.Shared.{IsSame};
 
 use crate::found::{SlotWords, WordsLock};
 use crate::kept::{Site, SlotLanes};
+use crate::numbers::{GroupNumbers, numbers_of};
 use crate::port::LockedPort;
 use lb_balancer_core::update::update_through;
 use lb_health_core::health_check::{BoxedCheck, HealthCheck};
@@ -58,6 +59,19 @@ struct SlotCounters {
     awaited_readers: AtomicU64,
 }
 
+// What threads note of a group outside its lock.
+#[derive(Drop)]
+pub(crate) struct Marks {
+    // Whether only workers use the group now.
+    let_go: AtomicBool,
+    // Whether the lanes are used no more.
+    pub(crate) is_closed: AtomicBool,
+    // Counts what may have changed what is ready, but for the registry's own changes.
+    pub(crate) changes: AtomicU64,
+    // How many threads asked for lanes of their own, wrapping.
+    pub(crate) readers: AtomicU64,
+}
+
 /// A group behind a lock, with its registry and its gate, which other groups may share, and its board outside the lock. Contracts see the
 /// board, the group as it was made (which one it is, its gate and its configurations), and the registry as it was made.
 pub struct SharedGroup<S: BackendSelection, R: KeyRule + Drop = Rule<NoRule>, C = BoxedCheck> {
@@ -69,8 +83,7 @@ pub struct SharedGroup<S: BackendSelection, R: KeyRule + Drop = Rule<NoRule>, C 
     // Held by an update from its discovery to its membership.
     updates: Mutex<()>,
     lines: Vec<SlotCounters>,
-    // Whether only workers use the group now.
-    let_go: AtomicBool,
+    pub(crate) marks: Marks,
     // Whose readers the lanes have, and the lanes of each slot.
     pub(crate) site: Site<S, R, C>,
     pub(crate) lanes: Vec<SlotLanes<S, R, C>>,
@@ -78,14 +91,10 @@ pub struct SharedGroup<S: BackendSelection, R: KeyRule + Drop = Rule<NoRule>, C 
     pub(crate) alloc: Global,
     // The words of each slot.
     pub(crate) words: Vec<WordsLock<S, R, C>>,
-    // Counts what may have changed what is ready, but for the registry's own changes.
-    pub(crate) changes: AtomicU64,
-    // Whether the lanes are used no more.
-    pub(crate) is_closed: AtomicBool,
-    // How many threads asked for lanes of their own, wrapping.
-    pub(crate) readers: AtomicU64,
     // The random words of each lane, for all slots.
     generators: LaneGenerators,
+    // What readings load.
+    pub(crate) numbers: GroupNumbers<S>,
 }
 
 impl<S: BackendSelection, R: KeyRule + Drop, C: Drop> Drop for SharedGroup<S, R, C> {
@@ -98,15 +107,13 @@ impl<S: BackendSelection, R: KeyRule + Drop, C: Drop> Drop for SharedGroup<S, R,
             loads: _,
             updates: _,
             lines: _,
-            let_go: _,
+            marks: _,
             site: _,
             lanes: _,
             alloc: _,
             words: _,
-            changes: _,
-            is_closed: _,
-            readers: _,
             generators: _,
+            numbers: _,
         } = self;
     }
 }
@@ -134,7 +141,8 @@ impl<S: BackendSelection, R: KeyRule + Drop, C> Model for SharedGroup<S, R, C> {
           registry = (arc_value g.registry).start;
         })
         × All (λ l. All (λ lane. lane.slot ≡ g.site) l.lanes.items) g.lanes.items
-        × All (λ f. f.table.shared.key ≡ g.site) g.words.items };
+        × All (λ f. f.table.shared.key ≡ g.site) g.words.items
+        × (g.numbers.words.table.shared.key ≡ g.lock.table.shared.key) };
 }
 
 impl<S: BackendSelection, R: KeyRule + Drop, C: HealthCheck + Drop> SharedGroup<S, R, C> {
@@ -164,6 +172,7 @@ impl<S: BackendSelection, R: KeyRule + Drop, C: HealthCheck + Drop> SharedGroup<
         let site = Site::of(&watched, &*registry);
         let lanes = lanes_of(alloc, board.word_count() - 1, &site)?;
         let words = words_of(alloc, board.word_count() - 1, &site)?;
+        let numbers = numbers_of(alloc, board.word_count() - 1, &key)?;
         let lock = KeyedLock::new(alloc, watched, &key)?;
         let generators = LaneGenerators::new(alloc, LANES, generator)?;
         Ok(SharedGroup {
@@ -174,15 +183,18 @@ impl<S: BackendSelection, R: KeyRule + Drop, C: HealthCheck + Drop> SharedGroup<
             loads: SharedLoads::new(alloc),
             updates: Mutex::new(()),
             lines,
-            let_go: AtomicBool::new(false),
+            marks: Marks {
+                let_go: AtomicBool::new(false),
+                is_closed: AtomicBool::new(false),
+                changes: AtomicU64::new(0),
+                readers: AtomicU64::new(0),
+            },
             site,
             lanes,
             alloc,
             words,
-            changes: AtomicU64::new(0),
-            is_closed: AtomicBool::new(false),
-            readers: AtomicU64::new(0),
             generators,
+            numbers,
         })
     }
 
@@ -196,7 +208,7 @@ impl<S: BackendSelection, R: KeyRule + Drop, C: HealthCheck + Drop> SharedGroup<
         held.value.cancel(&mut registry.value);
         put_registry(registries, registry);
         self.lock.put(held);
-        self.is_closed.store(true, SeqCst);
+        self.marks.is_closed.store(true, SeqCst);
         for slot in 0..self.slot_count() {
             self.clear_lanes(rt, slot);
         }
@@ -205,14 +217,14 @@ impl<S: BackendSelection, R: KeyRule + Drop, C: HealthCheck + Drop> SharedGroup<
 
     /// Has workers cancel the group at their next turn. It takes no lock and no memory.
     pub fn let_go(&self) {
-        self.let_go.store(true, SeqCst);
-        self.is_closed.store(true, SeqCst);
+        self.marks.let_go.store(true, SeqCst);
+        self.marks.is_closed.store(true, SeqCst);
         self.gate.wakes().wake();
     }
 
     /// Returns whether `let_go` was called.
     pub fn is_let_go(&self) -> bool {
-        self.let_go.load(SeqCst)
+        self.marks.let_go.load(SeqCst)
     }
 
     /// Returns what wakes the workers of the group.

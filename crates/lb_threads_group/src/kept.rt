@@ -137,7 +137,7 @@ impl<S: BackendSelection, R: KeyRule + Drop, C: HealthCheck + Drop> SharedGroup<
         let _board = &self.board;
         let mut pass = self.board.pass();
         self.board.selector_generation_as(slot, &mut pass) == Some(entry.reader.generation())
-            && !self.is_closed.load(SeqCst)
+            && !self.marks.is_closed.load(SeqCst)
     }
 
     // Reads what the hint's lane of a slot has, if it is of what the slot serves now.
@@ -223,7 +223,7 @@ impl<S: BackendSelection, R: KeyRule + Drop, C: HealthCheck + Drop> SharedGroup<
         }
         let mut pass = self.board.pass();
         if self.board.selector_generation_as(slot, &mut pass) != Some(generation)
-            || self.is_closed.load(SeqCst)
+            || self.marks.is_closed.load(SeqCst)
         {
             self.clear_lane(rt, lanes, hint);
         }

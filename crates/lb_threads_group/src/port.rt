@@ -74,6 +74,7 @@ impl<'g, 'r, 'f, S: BackendSelection, R: KeyRule + Drop, C: HealthCheck + Drop, 
         let group = self.group;
         let registries: &HealthRegistry<R, C> = &*group.registry;
         let job = refused.into_job();
+        let slot = job.slot();
         let gates: &SelectorRebuildGate = &*group.gate;
         let mut held = group.lock.take(self.rt);
         // `_gate` and `founded()` are for the prover alone: they show it the group's invariant, and do nothing at run time.
@@ -81,6 +82,7 @@ impl<'g, 'r, 'f, S: BackendSelection, R: KeyRule + Drop, C: HealthCheck + Drop, 
         let mut cells = take_registry(registries, self.rt);
         let mut gate = take_gate(gates, self.rt);
         let told = held.value.fail(job, &mut cells.value, &mut gate.value, now);
+        group.note_slot(&held.value, slot);
         put_gate(gates, gate);
         put_registry(registries, cells);
         group.lock.put(held);
@@ -99,6 +101,7 @@ impl<'g, 'r, 'f, S: BackendSelection, R: KeyRule + Drop, C: HealthCheck + Drop, 
         let mut held = group.lock.take(self.rt);
         held.value.founded();
         let told = held.value.publish(built);
+        group.note_slot(&held.value, slot);
         group.lock.put(held);
         group.clear_lanes(self.rt, slot);
         group.judge_all(self.rt, slot);
@@ -170,6 +173,7 @@ impl<'g, 'r, 'f, S: BackendSelection, R: KeyRule + Drop, C: HealthCheck + Drop, 
             .value
             .schedule(alloc, &mut cells.value, discovered, settings, now);
         put_registry(registries, cells);
+        group.note_all(&held.value);
         group.lock.put(held);
         if has_settings {
             group.note_change();

@@ -1,7 +1,8 @@
-//! Readings of a group that threads share. Each call takes the group's lock once, and returns what was true then.
+//! Readings of a group that threads share. Each call takes the group's lock once, and returns what was true then; those that take none
+//! are in `numbers`.
 ghost use Rattle.std.specs.Prelude.{◌≡◌};
 ghost use Rattle.lb_rebuild_core.specs.SlotsCalls.{at_slot};
-ghost use Rattle.lb_rebuild_core.specs.SlotsHistory.{past_of, newest, is_cancelled, served, timing as timing_after};
+ghost use Rattle.lb_rebuild_core.specs.SlotsHistory.{past_of, is_cancelled, timing as timing_after};
 ghost use Rattle.lb_rebuild_core.specs.Stands.{counts_after};
 ghost use Rattle.lb_rebuild_core.specs.GroupHistory.{slot_events};
 ghost use Rattle.lb_rebuild_core.specs.GroupStates.{After};
@@ -15,24 +16,11 @@ use lb_select_base::walk::BackendSelection;
 use std::sync::Wait;
 
 impl<S: BackendSelection, R: KeyRule + Drop, C: HealthCheck + Drop> SharedGroup<S, R, C> {
-    /// Returns the newest generation of the backends; 0 before the first membership.
-    pub fn backend_generation<W: Wait>(&self, rt: &W) -> u64
-        ensures { Seen self.now.core (λ v. After v (λ made e. result ≡ newest (slot_events e))) }
-    {
-        // `_gate` and `founded()` are for the prover alone: they show it the group's invariant, and do nothing at run time.
-        let _gate = &self.gate;
-        let held = self.lock.take(rt);
-        let group = held.value.core();
-        group.founded();
-        let generation = group.newest();
-        self.lock.put(held);
-        generation
-    }
-
     /// Returns whether the group is cancelled.
     pub fn is_cancelled<W: Wait>(&self, rt: &W) -> bool
         ensures { Seen self.now.core (λ v. After v (λ made e. result ≡ is_cancelled (slot_events e))) }
     {
+        // `_gate` and `founded()` are for the prover alone: they show it the group's invariant, and do nothing at run time.
         let _gate = &self.gate;
         let held = self.lock.take(rt);
         let group = held.value.core();
@@ -42,25 +30,13 @@ impl<S: BackendSelection, R: KeyRule + Drop, C: HealthCheck + Drop> SharedGroup<
         told
     }
 
-    /// Returns the generation that a slot serves, or `None` where no such slot is there.
-    pub fn selector_generation<W: Wait>(&self, rt: &W, slot: usize) -> Option<u64>
-        ensures { Seen self.now.core (λ v. After v (λ made e. result ≡ at_slot made slot (served (past_of slot (slot_events e))))) }
-    {
-        let _gate = &self.gate;
-        let held = self.lock.take(rt);
-        let group = held.value.core();
-        group.founded();
-        let generation = group.served(slot);
-        self.lock.put(held);
-        generation
-    }
-
     /// Returns the counts of a slot, or `None` where no such slot is there.
     pub fn selector_counts<W: Wait>(&self, rt: &W, slot: usize) -> Option<Counts>
         ensures { Seen self.now.core (λ v. After v (λ made e. result ≡ at_slot made slot (counts_after (past_of slot (slot_events e))))) }
     {
         let _gate = &self.gate;
         let held = self.lock.take(rt);
+        self.note_slot(&held.value, slot);
         let group = held.value.core();
         group.founded();
         let counts = group.counts(slot);

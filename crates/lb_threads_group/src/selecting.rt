@@ -78,7 +78,7 @@ impl<S: BackendSelection, R: KeyRule + Drop, C: HealthCheck + Drop> SharedGroup<
 
     /// Returns the number of a lane for a thread of its own: 0, and one more with each call, wrapping.
     pub fn own_lane(&self) -> u64 {
-        self.readers.fetch_add(1, SeqCst)
+        self.marks.readers.fetch_add(1, SeqCst)
     }
 
     // Selects in what a lane has, where it is of this slot.
