@@ -6,6 +6,7 @@ use Rattle.std.specs.List.{list_any}
 use Rattle.lb_select_base.specs.Backends.{Member, same_member}
 use Rattle.lb_select_base.specs.Memberships.{same_members}
 use Rattle.lb_health_core.specs.Keys.{by_identity}
+use Rattle.lb_health_core.specs.Registry.{RegistryValue}
 use Rattle.lb_health_core.specs.RegistryEvents.{shown_cells}
 use Rattle.lb_health_view.specs.Discoveries.{Discovers, Found}
 use Rattle.lb_health_view.specs.declared.discovery.DiscoverySource.{DiscoverySource}
@@ -13,9 +14,11 @@ use Rattle.lb_health_view.specs.declared.discovery.DiscoverySource.TheVariants a
 use Rattle.lb_health_view.specs.RegistrySide.{after_settings, view_updated, with_membership}
 use Rattle.lb_health_view.specs.ViewEvents.{ViewEvent, Set, Shown, generation_after, membership_after}
 use Rattle.lb_health_view.specs.Views.{IsViewAfter}
+use Rattle.lb_balancer_core.specs.Balancer.{IsJudged}
+use Rattle.lb_threads_core.specs.Registry.{IsRegistryOf}
 use Rattle.lb_balancer.specs.Texts.{one_view}
 use Rattle.lb_balancer.specs.History.{AreDiscovered, BalancerValue, IsServedBy, IsShownBy, MayGive, Takes}
-use Rattle.lb_balancer.specs.Shown.{ServingValue, ShownValue, ShowsView}
+use Rattle.lb_balancer.specs.Shown.{AreUnready, ServingValue, ShownValue, ShowsView}
 use Rattle.lb_balancer.proofs.Memberships.{kept-members, new-members}
 
 by-flag : (b : Bool) (m : Member) (on : Bool) (views : List ViewEvent)
@@ -83,10 +86,16 @@ taken d members settings cells views false other found before =
     (record { none = (λ none. absurd (omega (arith, generation, none))); some = (λ some. ∣ (settings, found) ∣₁) })
 
 -- what holds by the key of a lock holds by the balancer whose key that is
-pub known : {D C : Type 0} {b c : BalancerValue D C} {s : ServingValue C} → b ≡ c → IsServedBy b s → IsServedBy c s
+pub known : {D C R : Type 0} {b c : BalancerValue D C R} {s : ServingValue C} → b ≡ c → IsServedBy b s → IsServedBy c s
 known {s = s} same was = subst (λ x. IsServedBy x s) same was
 
-module _ {D C : Type 0} (b : BalancerValue D C) {s t : ServingValue C} where
+-- a state of the registry that a balancer was made of is one of the registry that the balancer names
+pub of-registry : {D C R : Type 0} (gives : R → Member → Member → Type 0) {start cells : RegistryValue R} {b c : BalancerValue D C R}
+    → start ≡ b.registry → b ≡ c → IsRegistryOf gives start cells → IsRegistryOf gives c.registry cells
+of-registry gives {cells = cells} {c = c} start same is =
+    subst (λ r. IsRegistryOf gives r cells) (start ∙ ap (λ v. v.registry) same) is
+
+module _ {D C R : Type 0} (b : BalancerValue D C R) {s t : ServingValue C} where
   pub updated : IsServedBy b s → t.config ≡ s.config → (members : List Member) (settings : List (Member × Bool))
       → MayGive b.discovery members settings → Takes members settings s t → IsServedBy b t
   updated was config members settings discovered takes = record {
@@ -127,14 +136,21 @@ module _ {D C : Type 0} (b : BalancerValue D C) {s t : ServingValue C} where
         discovered = was.discovered;
       }
 
--- a copy of what is served is shown
-pub shown-of : {D C : Type 0} (b : BalancerValue D C) {s : ServingValue C} {x : ShownValue C} → IsServedBy b s → x.config ≡ s.config
-    → ShowsView s.view x → IsShownBy b x
-shown-of b was config shows = record {
+-- a copy of what is served is shown, with those that aren't ready by the registry
+pub shown-of : {D C R : Type 0} (gives : R → Member → Member → Type 0) (b : BalancerValue D C R) {s : ServingValue C} {x : ShownValue C}
+    {cells : RegistryValue R} → IsServedBy b s → x.config ≡ s.config → ShowsView s.view x → IsRegistryOf gives b.registry cells
+    → AreUnready (IsJudged gives s.view cells) x.members x.unready → IsShownBy gives b x
+shown-of gives b {s = s} {cells = cells} was config shows registry judged = record {
   config = config ∙ was.config;
   first = subst (λ n. b.first ≤ n) (sym (shows.generation was.views was.view)) was.first;
   discovered =
       moved b.discovery (sym (shows.generation was.views was.view)) (sym (shows.members was.views was.view)) was.discovered;
+  served = s;
+  was_served = was;
+  shows = shows;
+  cells = cells;
+  was_registry = registry;
+  judged = judged;
 }
 
 numbered : (b : Bool) (members : List Member) (cells : List (Member × ℕ))

@@ -2,18 +2,23 @@
 -- made at some state of it.
 use Rattle.std.specs.Prelude.{◌≡◌, ◌<◌, ◌≤◌, ⊤, ℕ, Bool, List, [], ◌∷◌}
 use Rattle.lb_select_base.specs.Backends.{Member}
+use Rattle.lb_health_core.specs.Registry.{RegistryValue}
 use Rattle.lb_health_view.specs.Discoveries.{Discovers}
 use Rattle.lb_health_view.specs.declared.discovery.DiscoverySource.{DiscoverySource}
 use Rattle.lb_health_view.specs.RegistrySide.{after_settings, with_membership}
 use Rattle.lb_health_view.specs.ViewEvents.{ViewEvent, Set, generation_after, membership_after}
 use Rattle.lb_health_view.specs.Views.{IsViewAfter}
-use Rattle.lb_balancer.specs.Shown.{ServingValue, ShownValue}
+use Rattle.lb_balancer_core.specs.Balancer.{IsJudged}
+use Rattle.lb_threads_core.specs.Registry.{IsRegistryOf}
+use Rattle.lb_balancer.specs.Shown.{AreUnready, ServingValue, ShownValue, ShowsView}
 
--- what a caller knows of a balancer: its discovery, what its selectors are built with, and the generation at which it was made
-pub record BalancerValue (D C : Type 0) : Type 0 where
+-- what a caller knows of a balancer: its discovery, what its selectors are built with, the generation at which it was made, and its
+-- registry of health, as it was when it came under its lock
+pub record BalancerValue (D C R : Type 0) : Type 0 where
   pub discovery : DiscoverySource D
   pub config : C
   pub first : ℕ
+  pub registry : RegistryValue R
 
 -- What a discovery may give, as far as a lock's fact can say it: a set that stays gives itself. What a caller's discovery says of itself
 -- (`finds`) isn't in it, since the type of a lock can't rest on the contract of a boxed one.
@@ -26,7 +31,7 @@ pub record AreDiscovered {D : Type 0} (discovery : DiscoverySource D) (generatio
   pub none : generation ≡ 0 → members ≡ []
   pub some : 0 < generation → ∥ ((settings : List (Member × Bool)) × MayGive discovery members settings) ∥₁
 
-module _ {D C : Type 0} (b : BalancerValue D C) where
+module _ {D C R : Type 0} (b : BalancerValue D C R) where
   -- what the balancer may serve: a view whose newest membership was discovered, and a selector that is built with its configuration
   pub record IsServedBy (s : ServingValue C) : Type 0 where
     pub config : s.config ≡ b.config
@@ -41,15 +46,29 @@ module _ {D C : Type 0} (b : BalancerValue D C) where
       (s : ServingValue C) × IsServedBy s
       × ((views : List ViewEvent) → IsViewAfter views s.view → n ≡ generation_after views)
 
-  -- what the balancer may show: members that were discovered, and a selector that is built with its configuration
+  -- a call that was made at some state of what the balancer serves, and left one
+  abbrev pub UnderServing : (ServingValue C → ServingValue C → Type 0) → Type 0
+  UnderServing Call = (s : ServingValue C) × ((t : ServingValue C) × (IsServedBy s × (IsServedBy t × Call s t)))
+
+module _ {R : Type 0} (gives : R → Member → Member → Type 0) {D C : Type 0} (b : BalancerValue D C R) where
+  -- whether a backend was ready in the newest membership, at some state of what the balancer serves and of its registry
+  abbrev pub JudgedBy : Member → Bool → Type 0
+  JudgedBy m ready =
+      (s : ServingValue C) × (IsServedBy b s
+      × ((cells : RegistryValue R) × (IsRegistryOf gives b.registry cells × IsJudged gives s.view cells m ready)))
+
+  -- what the balancer may show: members that were discovered, and a selector that is built with its configuration; and at some state of
+  -- what it served and of its registry, these were the newest members, and those of them that weren't ready
   pub record IsShownBy (s : ShownValue C) : Type 0 where
     pub config : s.config ≡ b.config
     pub first : b.first ≤ s.generation
     pub discovered : AreDiscovered b.discovery s.generation s.members
-
-  -- a call that was made at some state of what the balancer serves, and left one
-  abbrev pub UnderServing : (ServingValue C → ServingValue C → Type 0) → Type 0
-  UnderServing Call = (s : ServingValue C) × ((t : ServingValue C) × (IsServedBy s × (IsServedBy t × Call s t)))
+    pub served : ServingValue C
+    pub was_served : IsServedBy b served
+    pub shows : ShowsView served.view s
+    pub cells : RegistryValue R
+    pub was_registry : IsRegistryOf gives b.registry cells
+    pub judged : AreUnready (IsJudged gives served.view cells) s.members s.unready
 
 -- a backend that the newest membership lists was enabled or disabled
 abbrev pub SetsFlag : {C : Type 0} → Member → Bool → ServingValue C → ServingValue C → Type 0

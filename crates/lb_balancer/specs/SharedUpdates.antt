@@ -17,7 +17,7 @@ abbrev pub ReadsUpdate : {K : Type 0} → (K → ℕ → K → Type 0) → K →
 ReadsUpdate reads clock after = (times : List ℕ) × Reads reads clock times after × ((length times ≡ 2) ⊎ (length times ≡ 4))
 
 -- The discovery gave members and settings, and at some state of the balancer they were taken in.
-pub record IsSharedUpdated {D C : Type 0} (finds : D → Found → Type 0) (b : BalancerValue D C) : Type 0 where
+pub record IsSharedUpdated {D C R : Type 0} (finds : D → Found → Type 0) (b : BalancerValue D C R) : Type 0 where
   pub members : List Member
   pub settings : List (Member × Bool)
   pub discovered : Discovers finds b.discovery members settings
@@ -33,7 +33,7 @@ IsBuildRefusal build r = (memory_apart build ≡ Some r) ⊎ IsRoomRefusal r
 
 -- why an update is refused: the discovery answered a fault or was refused memory, or what it gave is refused
 abbrev pub IsSharedRefusal :
-    {D C : Type 0} → (D → Found → Type 0) → (List Member → C → Option Refusal) → BalancerValue D C → Refusal → Type 0
+    {D C R : Type 0} → (D → Found → Type 0) → (List Member → C → Option Refusal) → BalancerValue D C R → Refusal → Type 0
 IsSharedRefusal finds build b r =
     ((r ≡ Discovery) × MayFault finds b.discovery)
     ⊎ (((r ≡ OutOfMemory) × MayLackMemory finds b.discovery)

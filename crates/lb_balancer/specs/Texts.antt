@@ -7,8 +7,10 @@ use Rattle.lb_select_base.specs.Memberships.{same_members}
 use Rattle.lb_select_base.specs.declared.refusal.Refusal.{Refusal}
 use Rattle.lb_select_base.specs.declared.refusal.Refusal.TheVariants.{OutOfMemory}
 use Rattle.lb_health_core.specs.Keys.{by_identity}
+use Rattle.lb_health_core.specs.Registry.{RegistryValue, IsRegistryAfter}
 use Rattle.lb_health_core.specs.RegistryEvents.{Event, Applied, Registered}
 use Rattle.lb_health_view.specs.Lookups.{IsMadeOf}
+use Rattle.lb_health_view.specs.RegistrySide.{registry_updated}
 use Rattle.lb_health_view.specs.declared.discovery.DiscoverySource.{DiscoverySource}
 use Rattle.lb_health_view.specs.declared.discovery.DiscoverySource.TheVariants.{Static}
 use Rattle.lb_balancer_core.specs.Balancer.{update_cause}
@@ -19,9 +21,10 @@ abbrev pub one_view : List Event
 one_view = Applied ∷ Registered ∷ []
 
 -- The discovery keeps the backends that some network answered for the texts. The clock was read at the start and at the end, and
--- around the build where there are backends. The balancer was made at generation 1, and at 0 where there is none.
-pub record IsOfTexts {D K : Type 0} (reads : K → ℕ → K → Type 0) (texts : List (Bor (List ℕ))) (clock clock_after : K)
-    (discovery : DiscoverySource D) (first : ℕ) : Type 0 where
+-- around the build where there are backends. The balancer was made at generation 1, and at 0 where there is none. Its registry, which keys
+-- by identity, had the one view, to which these backends were shown.
+pub record IsOfTexts {D K R : Type 0} (reads : K → ℕ → K → Type 0) (gives : R → Member → Member → Type 0) (texts : List (Bor (List ℕ)))
+    (clock clock_after : K) (discovery : DiscoverySource D) (first : ℕ) (registry : RegistryValue R) : Type 0 where
   pub members : List Member
   pub times : List ℕ
   pub looked_up : IsMadeOf texts (Ok members)
@@ -29,6 +32,7 @@ pub record IsOfTexts {D K : Type 0} (reads : K → ℕ → K → Type 0) (texts 
   pub read : Reads reads clock times clock_after
   pub readings : length times ≡ (if same_members members [] then 2 else 4)
   pub began : first ≡ (if same_members members [] then 0 else 1)
+  pub starts : IsRegistryAfter gives by_identity (registry_updated by_identity 1 members [] one_view) registry
 
 -- Why texts make no balancer: a lookup is refused, or a selector over no backends or over those that were found; or for memory.
 abbrev pub IsTextsRefusal : List (Bor (List ℕ)) → (List Member → Option Refusal) → Refusal → Type 0

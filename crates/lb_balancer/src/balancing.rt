@@ -13,7 +13,8 @@ ghost use Rattle.lb_health_view.specs.RegistrySide.{settings_of};
 ghost use Rattle.lb_health_view.specs.Views.{IsViewRefusal};
 ghost use Rattle.lb_health_core.specs.Registry.{IsGrowthRefusal};
 ghost use Rattle.lb_balancer_core.specs.Timings.{Reads};
-ghost use Rattle.lb_balancer.specs.History.{IsServedBy, IsServedGeneration, IsShownBy, MayGive};
+ghost use Rattle.lb_threads_core.specs.Registry.{IsRegistryOf};
+ghost use Rattle.lb_balancer.specs.History.{IsServedBy, IsServedGeneration, IsShownBy, JudgedBy, MayGive};
 ghost use Rattle.lb_balancer.specs.History.{SetsFlag, TakesIn, UnderServing};
 ghost use Rattle.lb_balancer.specs.Shown.{ShownValue};
 ghost use Rattle.lb_balancer.specs.SharedUpdates.{IsBuildRefusal, IsSharedRefusal, IsSharedUpdated, ReadsUpdate};
@@ -32,7 +33,7 @@ use lb_select_base::moments::MomentSource;
 use lb_select_base::refusal::Refusal;
 use lb_select_base::walk::BackendSelection;
 use lb_threads_core::backends::{Backends, BackendsParts, registered_view};
-use lb_threads_core::generators::LaneGenerators;
+use lb_threads_core::generators::SharedGenerator;
 use lb_threads_core::lanes::Lanes;
 use lb_threads_core::loads::SharedLoads;
 use lb_threads_core::lock::KeyedLock;
@@ -40,7 +41,6 @@ use lb_threads_core::numbers::KeyedNumbers;
 use lb_threads_core::owner::ViewOwner;
 use lb_threads_core::registry::{HealthRegistry, put_registry, take_registry};
 use log::Log;
-use rand_pcg::Pcg64;
 use std::alloc::Global;
 use std::collections::BTreeSet;
 use std::marker::Model;
@@ -51,41 +51,40 @@ use std::sync::atomic::Ordering::SeqCst;
 use std::sync::{Arc, Mutex, Wait};
 use std::thread::Threads;
 
-type ServingLock<S, D> = KeyedLock<Serving<S>, Snapshot<Origin<S, D>>, OfServing>;
+type ServingLock<S, D, R, C> = KeyedLock<Serving<S>, Snapshot<Origin<S, D, R, C>>, OfServing>;
 
-type ShownLock<S, D> = KeyedLock<Arc<Shown<S>>, Snapshot<Origin<S, D>>, OfShown>;
+type ShownLock<S, D, R, C> = KeyedLock<Arc<Shown<S>>, Snapshot<Origin<S, D, R, C>>, OfShown>;
 
-type GenerationNumber<S, D> = KeyedNumbers<Snapshot<Origin<S, D>>, OfGeneration>;
+type GenerationNumber<S, D, R, C> = KeyedNumbers<Snapshot<Origin<S, D, R, C>>, OfGeneration>;
 
 // The number of lanes: as many as threads that select at once may want, a power of two.
 const LANES: usize = 64;
 
-// What a balancer has for its threads: the locks of what is served and of what is shown of it, the generation that is served, the lanes
-// with their generators, and the loads.
-struct Places<S: BackendSelection, D> {
-    serving: ServingLock<S, D>,
-    shown: ShownLock<S, D>,
-    generation: GenerationNumber<S, D>,
-    lanes: Lanes<KeptShown<S, D>>,
-    generators: LaneGenerators,
+// What a balancer has for its threads: the locks of what is served and of what is shown of it, the generation that is served, the lanes, a
+// generator, and the loads.
+struct Places<S: BackendSelection, D, R: KeyRule + Drop, C> {
+    serving: ServingLock<S, D, R, C>,
+    shown: ShownLock<S, D, R, C>,
+    generation: GenerationNumber<S, D, R, C>,
+    lanes: Lanes<KeptShown<S, D, R, C>>,
+    generator: SharedGenerator,
     loads: Arc<SharedLoads>,
 }
 
-/// A balancer with one selector. Contracts see what never changes: its discovery, and what its selectors are built with. Other threads may
-/// change what it serves at any time, so a call is made at some state of it, which some of its own updates left. Its drop takes no lock:
-/// the next call of the registry removes its view.
+/// A balancer with one selector. Contracts see what never changes: its discovery, what its selectors are built with, and which registry its
+/// health is of. Other threads may change what it serves at any time, so a call is made at some state of it, which some of its own updates
+/// left. Its drop takes no lock: the next call of the registry removes its view.
 pub struct Balancing<S: BackendSelection, D, R: KeyRule + Drop, C> {
-    pub(crate) origin: Origin<S, D>,
-    registry: Arc<HealthRegistry<R, C>>,
+    pub(crate) origin: Origin<S, D, R, C>,
     view: ViewOwner,
     updates: Mutex<()>,
-    serving: ServingLock<S, D>,
-    shown: ShownLock<S, D>,
+    serving: ServingLock<S, D, R, C>,
+    shown: ShownLock<S, D, R, C>,
     // Noted while what is served is locked.
-    generation: GenerationNumber<S, D>,
-    pub(crate) lanes: Lanes<KeptShown<S, D>>,
-    // The random words of each lane.
-    pub(crate) generators: LaneGenerators,
+    generation: GenerationNumber<S, D, R, C>,
+    pub(crate) lanes: Lanes<KeptShown<S, D, R, C>>,
+    // Seeds the random words of lanes and readers.
+    pub(crate) generator: SharedGenerator,
     timing: Mutex<Option<UpdateTimings>>,
     loads: Arc<SharedLoads>,
     // Counts what may have changed what is ready, but for the registry's own changes.
@@ -97,14 +96,13 @@ impl<S: BackendSelection, D: Drop, R: KeyRule + Drop, C: Drop> Drop for Balancin
     fn drop(self) {
         let Balancing {
             origin: _,
-            registry: _,
             view: _,
             updates: _,
             serving: _,
             shown: _,
             generation: _,
             lanes: _,
-            generators: _,
+            generator: _,
             timing: _,
             loads: _,
             changes: _,
@@ -117,7 +115,7 @@ impl<S: BackendSelection, D, R: KeyRule + Drop, C> Model for Balancing<S, D, R, 
     ghost use Rattle.std.specs.Prelude.{◌≡◌, All};
     ghost use Rattle.lb_balancer.specs.History.{BalancerValue};
 
-    ghost Value = { BalancerValue D S.Config };
+    ghost Value = { BalancerValue D S.Config R };
 
     ghost view = { λ b. b.origin };
 
@@ -146,7 +144,7 @@ impl<
         config: Option<S::Config>,
     ) -> Result<Balancing<S, D, R, C>, Refusal>
         ensures made { IfOk result (λ b. (b.discovery ≡ backends.discovery) × (b.config ≡ unwrap_or config S.default_config)
-            × (b.first ≡ 0)) }
+            × (b.first ≡ 0) × (b.registry ≡ backends.registry.start)) }
         ensures refused { IfErr result (λ r. (memory_apart (S.refusal [] (unwrap_or config S.default_config)) ≡ Some r)
             ⊎ ((r ≡ Refusal.NumbersExhausted) ⊎ (r ≡ Refusal.OutOfMemory))) }
     {
@@ -163,17 +161,17 @@ impl<
             discovery,
             config,
             first: 0,
+            registry,
         };
-        let places = places_over(rt, alloc, shared, Serving::new(view, built), &origin)?;
-        Ok(Balancing::behind(origin, registry, owner, places, None))
+        let places = places_over(rt, alloc, Serving::new(view, built), &origin)?;
+        Ok(Balancing::behind(origin, owner, places, None))
     }
 
-    // A balancer that serves this at first, over this registry.
+    // A balancer that serves this at first.
     pub(crate) fn begun<W: Wait>(
         rt: &W,
         alloc: Global,
-        origin: Origin<S, D>,
-        registry: Registry<R>,
+        origin: Origin<S, D, R, C>,
         serving: Serving<S>,
         timing: UpdateTimings,
     ) -> Result<Balancing<S, D, R, C>, Refusal>
@@ -181,18 +179,17 @@ impl<
         ensures made { IfOk result (λ b. b ≡ origin) }
         ensures refused { IfErr result (λ e. e ≡ Refusal.OutOfMemory) }
     {
-        let shared = Arc::new(alloc, HealthRegistry::over(alloc, registry)?)?;
-        let owner = shared.own_view(rt, alloc, serving.view_id())?;
-        let places = places_over(rt, alloc, &*shared, serving, &origin)?;
-        Ok(Balancing::behind(origin, shared, owner, places, Some(timing)))
+        let registry = origin.registry();
+        let owner = registry.own_view(rt, alloc, serving.view_id())?;
+        let places = places_over(rt, alloc, serving, &origin)?;
+        Ok(Balancing::behind(origin, owner, places, Some(timing)))
     }
 
     // The balancer over these places.
     fn behind(
-        origin: Origin<S, D>,
-        registry: Arc<HealthRegistry<R, C>>,
+        origin: Origin<S, D, R, C>,
         view: ViewOwner,
-        places: Places<S, D>,
+        places: Places<S, D, R, C>,
         timing: Option<UpdateTimings>,
     ) -> Balancing<S, D, R, C>
         requires { (places.serving.table.shared.key.value ≡ origin) × (places.shown.table.shared.key.value ≡ origin)
@@ -204,19 +201,18 @@ impl<
             shown,
             generation,
             lanes,
-            generators,
+            generator,
             loads,
         } = places;
         Balancing {
             origin,
-            registry,
             view,
             updates: Mutex::new(()),
             serving,
             shown,
             generation,
             lanes,
-            generators,
+            generator,
             timing: Mutex::new(timing),
             loads,
             changes: AtomicU64::new(0),
@@ -299,7 +295,7 @@ impl<
             self.serving.put(held);
             return Some((members, settings));
         }
-        let registries: &HealthRegistry<R, C> = &*self.registry;
+        let registries = self.origin.registry();
         let mut cells = take_registry(registries, rt);
         held.value.keep(alloc, &mut cells.value, members, settings);
         let gone = self.exchange(rt, alloc, &held.value, &cells.value);
@@ -327,7 +323,7 @@ impl<
                 Ok(built)
             }
             Err(Refusal::OutOfMemory) => {
-                let registries: &HealthRegistry<R, C> = &*self.registry;
+                let registries = self.origin.registry();
                 let held = self.serving.take(rt);
                 let cells = take_registry(registries, rt);
                 let cause = held.value.cause(&cells.value, members);
@@ -357,7 +353,7 @@ impl<
         let _key = &self.origin;
         let mut held = self.serving.take(rt);
         held.value.founded();
-        let registries: &HealthRegistry<R, C> = &*self.registry;
+        let registries = self.origin.registry();
         let mut cells = take_registry(registries, rt);
         let (unserved, answer) = held
             .value
@@ -381,11 +377,12 @@ impl<
         serving: &Serving<S>,
         registry: &Registry<R>,
     ) -> Option<Arc<Shown<S>>>
-        requires { IsServedBy self.now serving.now }
+        requires served { IsServedBy self.now serving.now }
+        requires registry { IsRegistryOf R.gives self.now.registry registry.now }
     {
         let version = Version {
             balancer: self.changes.load(SeqCst).wrapping_add(1),
-            registry: self.registry.changes(),
+            registry: self.origin.registry().changes(),
         };
         let gone = match shown_of(alloc, serving, registry, &self.loads, version, &self.origin) {
             Ok(shown) => Some(self.swap(rt, shown)),
@@ -406,7 +403,7 @@ impl<
 
     // Shows this from now on. Returns what was shown before.
     fn swap<W: Wait>(&self, rt: &W, shown: Arc<Shown<S>>) -> Arc<Shown<S>>
-        requires { IsShownBy self.now (arc_value shown) }
+        requires { IsShownBy R.gives self.now (arc_value shown) }
     {
         let _key = &self.origin;
         let mut held = self.shown.take(rt);
@@ -419,7 +416,7 @@ impl<
     pub(crate) fn version(&self) -> Version {
         Version {
             balancer: self.changes.load(SeqCst),
-            registry: self.registry.changes(),
+            registry: self.origin.registry().changes(),
         }
     }
 
@@ -427,7 +424,7 @@ impl<
     ///
     /// Selections in it are all in one generation, with the readiness of one moment. Refused for memory alone.
     pub(crate) fn shown<W: Wait>(&self, rt: &W, alloc: Global) -> Result<Arc<Shown<S>>, Refusal>
-        ensures shown { IfOk result (λ s. IsShownBy self.now (arc_value s)) }
+        ensures shown { IfOk result (λ s. IsShownBy R.gives self.now (arc_value s)) }
         ensures refused { IfErr result (λ e. e ≡ Refusal.OutOfMemory) }
     {
         let latest = self.latest(rt)?;
@@ -477,16 +474,18 @@ impl<
         rt: &W,
         alloc: Global,
     ) -> Result<Arc<BTreeSet<Backend>>, Refusal>
-        ensures members { IfOk result (λ set. (s : ShownValue S.Config) × IsShownBy self.now s × ((arc_value set).keys ≡ s.members)) }
+        ensures members { IfOk result (λ set. (s : ShownValue S.Config) × IsShownBy R.gives self.now s × ((arc_value set).keys ≡ s.members)) }
         ensures refused { IfErr result (λ e. e ≡ Refusal.OutOfMemory) }
     {
         self.shown(rt, alloc)?.get_backend()
     }
 
     /// Returns whether a backend is ready in the newest membership, without taking memory.
-    pub fn ready<W: Wait>(&self, rt: &W, backend: &Backend) -> bool {
+    pub fn ready<W: Wait>(&self, rt: &W, backend: &Backend) -> bool
+        ensures { JudgedBy R.gives self.now backend.now result }
+    {
         let _key = &self.origin;
-        let registries: &HealthRegistry<R, C> = &*self.registry;
+        let registries = self.origin.registry();
         let held = self.serving.take(rt);
         let cells = take_registry(registries, rt);
         let ready = held.value.ready(&cells.value, backend);
@@ -504,7 +503,7 @@ impl<
         let _key = &self.origin;
         let mut held = self.serving.take(rt);
         held.value.set_enable(backend, enabled);
-        let registries: &HealthRegistry<R, C> = &*self.registry;
+        let registries = self.origin.registry();
         let cells = take_registry(registries, rt);
         let gone = self.exchange(rt, alloc, &held.value, &cells.value);
         put_registry(registries, cells);
@@ -535,7 +534,7 @@ impl<
     /// another membership is refused `NoSuch`. It takes no memory.
     pub(crate) fn leave<W: Wait>(&self, rt: &W) {
         let _key = &self.origin;
-        let registries: &HealthRegistry<R, C> = &*self.registry;
+        let registries = self.origin.registry();
         let held = self.serving.take(rt);
         held.value.founded();
         let mut cells = take_registry(registries, rt);
@@ -550,7 +549,7 @@ impl<
     pub(crate) fn set_health_check<W: Wait>(&self, rt: &W, check: C) -> Result<(), Refusal>
         ensures { IfErr result (λ e. e ≡ Refusal.HealthCheckSet) }
     {
-        self.registry.set_health_check(rt, check)
+        self.origin.registry().set_health_check(rt, check)
     }
 
     /// Returns how long the last accepted update took; `None` before the first.
@@ -560,7 +559,7 @@ impl<
 
     // What was shown last.
     pub(crate) fn latest<W: Wait>(&self, rt: &W) -> Result<Arc<Shown<S>>, Refusal>
-        ensures shown { IfOk result (λ s. IsShownBy self.now (arc_value s)) }
+        ensures shown { IfOk result (λ s. IsShownBy R.gives self.now (arc_value s)) }
         ensures refused { IfErr result (λ e. e ≡ Refusal.OutOfMemory) }
     {
         let _key = &self.origin;
@@ -579,7 +578,7 @@ impl<
         serving: &Serving<S>,
     ) -> Result<(Arc<Shown<S>>, Arc<Shown<S>>), Refusal>
         requires { IsServedBy self.now serving.now }
-        ensures shown { IfOk result (λ s. IsShownBy self.now (arc_value s.0)) }
+        ensures shown { IfOk result (λ s. IsShownBy R.gives self.now (arc_value s.0)) }
         ensures refused { IfErr result (λ e. e ≡ Refusal.OutOfMemory) }
     {
         let version = self.version();
@@ -588,7 +587,7 @@ impl<
             let again = Arc::try_clone(&latest)?;
             return Ok((again, latest));
         }
-        let registries: &HealthRegistry<R, C> = &*self.registry;
+        let registries = self.origin.registry();
         let cells = take_registry(registries, rt);
         let told = shown_of(
             alloc,
@@ -602,6 +601,19 @@ impl<
         let shown = told?;
         let again = Arc::try_clone(&shown)?;
         Ok((again, self.swap(rt, shown)))
+    }
+
+    // Shows what is served, in each lane, where something changed since it was shown. It is for the thread of a pass of checks, so that
+    // requests seldom have to. Where memory is refused, the next selection shows it.
+    fn show_flips<W: Wait>(&self, rt: &W, alloc: Global) {
+        let is_shown = match self.latest(rt) {
+            Ok(latest) => latest.version() == self.version(),
+            Err(_) => false,
+        };
+        if !is_shown {
+            drop(self.shown(rt, alloc));
+            self.spread(rt);
+        }
     }
 }
 
@@ -624,7 +636,9 @@ impl<
     ) -> Result<(), Refusal>
         ensures { OnErr result (IsGrowthRefusal result) }
     {
-        self.registry.run_health_check(rt, alloc, parallel)
+        let result = self.origin.registry().run_health_check(rt, alloc, parallel);
+        self.show_flips(rt, alloc);
+        result
     }
 }
 
@@ -648,16 +662,17 @@ fn first_built<S: BackendSelection, R: KeyRule + Drop, C: HealthCheck + Drop, W:
 }
 
 // What is served, with the readiness that the registry gives.
-fn shown_of<S: BackendSelection, D, R: KeyRule + Drop>(
+fn shown_of<S: BackendSelection, D, R: KeyRule + Drop, C>(
     alloc: Global,
     serving: &Serving<S>,
     registry: &Registry<R>,
     loads: &Arc<SharedLoads>,
     version: Version,
-    origin: &Origin<S, D>,
+    origin: &Origin<S, D, R, C>,
 ) -> Result<Arc<Shown<S>>, Refusal>
-    requires { IsServedBy origin.now serving.now }
-    ensures shown { IfOk result (λ s. IsShownBy origin.now (arc_value s)) }
+    requires served { IsServedBy origin.now serving.now }
+    requires registry { IsRegistryOf R.gives origin.now.registry registry.now }
+    ensures shown { IfOk result (λ s. IsShownBy R.gives origin.now (arc_value s)) }
     ensures refused { IfErr result (λ e. e ≡ Refusal.OutOfMemory) }
 {
     // For the prover alone: the caller's `requires` speaks of it.
@@ -671,15 +686,15 @@ fn shown_of<S: BackendSelection, D, R: KeyRule + Drop>(
 fn places_over<S: BackendSelection, D, R: KeyRule + Drop, C: HealthCheck + Drop, W: Wait>(
     rt: &W,
     alloc: Global,
-    registry: &HealthRegistry<R, C>,
     serving: Serving<S>,
-    origin: &Origin<S, D>,
-) -> Result<Places<S, D>, Refusal>
+    origin: &Origin<S, D, R, C>,
+) -> Result<Places<S, D, R, C>, Refusal>
     requires { IsServedBy origin.now serving }
     ensures made { IfOk result (λ p. (p.serving.table.shared.key.value ≡ origin.now) × (p.shown.table.shared.key.value ≡ origin.now)
         × (p.generation.words.table.shared.key.value ≡ origin.now) × All (λ lane. lane.slot ≡ origin.now) p.lanes.lanes.items) }
     ensures refused { IfErr result (λ e. e ≡ Refusal.OutOfMemory) }
 {
+    let registry = origin.registry();
     let version = Version {
         balancer: 0,
         registry: registry.changes(),
@@ -687,8 +702,8 @@ fn places_over<S: BackendSelection, D, R: KeyRule + Drop, C: HealthCheck + Drop,
     let loads = Arc::new(alloc, SharedLoads::new(alloc))?;
     let mut serving = serving;
     serving.take_loads(rt, alloc, &*loads, 0);
-    let lanes = Lanes::new(alloc, LANES, origin)?;
-    let generators = LaneGenerators::new(alloc, LANES, Pcg64::new(0, 0))?;
+    let generator = SharedGenerator::new(0);
+    let lanes = Lanes::new(alloc, LANES, origin, &generator)?;
     let cells = take_registry(registry, rt);
     let told = shown_of(alloc, &serving, &cells.value, &loads, version, origin);
     put_registry(registry, cells);
@@ -699,7 +714,7 @@ fn places_over<S: BackendSelection, D, R: KeyRule + Drop, C: HealthCheck + Drop,
         shown: KeyedLock::new(alloc, shown, &key)?,
         generation: KeyedNumbers::new(alloc, 1, &key)?,
         lanes,
-        generators,
+        generator,
         loads,
     })
 }

@@ -50,7 +50,7 @@ impl<
         accept: &F,
     ) -> Option<Result<Option<Backend>, Refusal>>
         requires { F.IsAlwaysCallable accept.now }
-        ensures answers { IfSome result (λ r. OnOk r ((s : ShownValue S.Config) × IsShownBy self.now s
+        ensures answers { IfSome result (λ r. OnOk r ((s : ShownValue S.Config) × IsShownBy R.gives self.now s
             × SelectsFrom (AcceptsBy F.Fn accept.now) max_iterations S.walks key.now s r)) }
         ensures refused { IfSome result (λ r. IfErr r (λ e. e ≡ Refusal.OutOfMemory)) }
     {
@@ -60,14 +60,14 @@ impl<
         if shown.version() != self.version() {
             return None;
         }
-        let generator = Some(self.generators.of_lane(hint));
+        let generator = self.lanes.generator(hint);
         Some(shown.select_drawing(rt, alloc, generator, key, max_iterations, accept))
     }
 
     // Gives the hint's lane what is shown. Where something changed meanwhile, the lane is emptied, so that none has for long what isn't
     // served.
     pub(crate) fn refill(&self, hint: u64, shown: Arc<Shown<S>>)
-        requires { IsShownBy self.now (arc_value shown) }
+        requires { IsShownBy R.gives self.now (arc_value shown) }
     {
         let version = shown.version();
         let unneeded = self.lanes.renew(hint, KeptShown::new(shown), &self.origin);

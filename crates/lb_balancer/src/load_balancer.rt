@@ -68,7 +68,7 @@ impl<
         backends: Backends<D, R, C>,
     ) -> Result<LoadBalancer<S, D, R, C>, Refusal>
         ensures made { IfOk result (λ b. (b.shared.discovery ≡ backends.discovery) × (b.shared.config ≡ S.default_config)
-            × (b.shared.first ≡ 0)) }
+            × (b.shared.first ≡ 0) × (b.shared.registry ≡ backends.registry.start)) }
         ensures parts { IfOk result (λ b. (b.owns_checks ≡ backends.owns_checks) × (b.health_check_frequency ≡ None)
             × (b.update_frequency ≡ None) × (b.parallel_health_check ≡ false)) }
         ensures refused { IfErr result (λ r. (memory_apart (S.refusal [] S.default_config) ≡ Some r)
@@ -92,7 +92,8 @@ impl<
         config: Option<S::Config>,
     ) -> Result<LoadBalancer<S, D, R, C>, Refusal>
         ensures made { IfOk result (λ b. (b.shared.discovery ≡ backends.discovery)
-            × (b.shared.config ≡ unwrap_or config S.default_config) × (b.shared.first ≡ 0)) }
+            × (b.shared.config ≡ unwrap_or config S.default_config) × (b.shared.first ≡ 0)
+            × (b.shared.registry ≡ backends.registry.start)) }
         ensures parts { IfOk result (λ b. (b.owns_checks ≡ backends.owns_checks) × (b.health_check_frequency ≡ None)
             × (b.update_frequency ≡ None) × (b.parallel_health_check ≡ false)) }
         ensures refused { IfErr result (λ r. (memory_apart (S.refusal [] (unwrap_or config S.default_config)) ≡ Some r)
@@ -136,7 +137,7 @@ impl<
     ///
     /// All selections in it are in one generation, with the readiness of one moment. Refused for memory alone.
     pub fn shown<W: Wait>(&self, rt: &W, alloc: Global) -> Result<Arc<Shown<S>>, Refusal>
-        ensures shown { IfOk result (λ s. IsShownBy self.now.shared (arc_value s)) }
+        ensures shown { IfOk result (λ s. IsShownBy R.gives self.now.shared (arc_value s)) }
         ensures refused { IfErr result (λ e. e ≡ Refusal.OutOfMemory) }
     {
         self.shared.shown(rt, alloc)
@@ -152,7 +153,7 @@ impl<
         key: &[u8],
         max_iterations: usize,
     ) -> Result<Option<Backend>, Refusal>
-        ensures answers { OnOk result ((s : ShownValue S.Config) × IsShownBy self.now.shared s
+        ensures answers { OnOk result ((s : ShownValue S.Config) × IsShownBy R.gives self.now.shared s
             × SelectsFrom (λ was_ready. was_ready) max_iterations S.walks key.now s result) }
         ensures refused { IfErr result (λ e. e ≡ Refusal.OutOfMemory) }
     {
@@ -171,7 +172,7 @@ impl<
         accept: &F,
     ) -> Result<Option<Backend>, Refusal>
         requires { F.IsAlwaysCallable accept.now }
-        ensures answers { OnOk result ((s : ShownValue S.Config) × IsShownBy self.now.shared s
+        ensures answers { OnOk result ((s : ShownValue S.Config) × IsShownBy R.gives self.now.shared s
             × SelectsFrom (AcceptsBy F.Fn accept.now) max_iterations S.walks key.now s result) }
         ensures refused { IfErr result (λ e. e ≡ Refusal.OutOfMemory) }
     {

@@ -5,7 +5,7 @@ ghost use Rattle.std.specs.Borrow.{Bor};
 ghost use Rattle.std.specs.Iterator.{Drains, IsFinite};
 ghost use Rattle.lb_select_base.specs.Memberships.{same_members};
 ghost use Rattle.lb_select_base.specs.Refusals.{Refuses};
-ghost use Rattle.lb_health_core.specs.Keys.{by_identity};
+ghost use Rattle.lb_health_core.specs.Keys.{by_identity, rule_gives};
 ghost use Rattle.lb_health_core.specs.Registry.{IsRegistryAfter};
 ghost use Rattle.lb_health_view.specs.RegistrySide.{registry_updated, view_updated};
 ghost use Rattle.lb_health_view.specs.Views.{IsViewAfter};
@@ -27,10 +27,11 @@ use lb_select_base::backend::Backend;
 use lb_select_base::moments::MomentSource;
 use lb_select_base::refusal::Refusal;
 use lb_select_base::walk::BackendSelection;
+use lb_threads_core::registry::HealthRegistry;
 use std::alloc::Global;
 use std::collections::BTreeSet;
 use std::net::Net;
-use std::sync::Wait;
+use std::sync::{Arc, Wait};
 
 impl<
     S: BackendSelection,
@@ -58,7 +59,7 @@ impl<
         requires can { I.can_next texts }
         requires ends { IsFinite (I.remaining texts) }
         ensures made { IfOk result (λ b. (read : List (Bor (List ℕ))) × Drains I.next_gives texts read
-            × IsOfTexts K.reads read clock.old clock.new b.shared.discovery b.shared.first) }
+            × IsOfTexts K.reads (rule_gives N.gives) read clock.old clock.new b.shared.discovery b.shared.first b.shared.registry) }
         ensures parts { IfOk result (λ b. (b.shared.config ≡ S.default_config) × (b.owns_checks ≡ true)
             × (b.health_check_frequency ≡ None) × (b.update_frequency ≡ None) × (b.parallel_health_check ≡ false)) }
         ensures refused { IfErr result (λ r. (read : List (Bor (List ℕ))) × Drains I.next_gives texts read
@@ -76,8 +77,9 @@ impl<
             discovery: DiscoverySource::Static(found),
             config: None,
             first: serving.generation(),
+            registry: Arc::new(alloc, HealthRegistry::over(alloc, registry)?)?,
         };
-        let shared = Balancing::begun(rt, alloc, origin, registry, serving, timing)?;
+        let shared = Balancing::begun(rt, alloc, origin, serving, timing)?;
         Ok(LoadBalancer {
             shared,
             owns_checks: true,

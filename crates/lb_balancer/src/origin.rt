@@ -1,36 +1,47 @@
-//! What a balancer is made of, which never changes. Its locks and lanes keep facts by it about what they hold.
+//! What a balancer is made of, which never changes, but for what threads do in its registry. Its locks and lanes keep facts by it about
+//! what they hold.
 ghost use Rattle.std.specs.Prelude.{◌≡◌, unwrap_or};
 ghost use Rattle.std.specs.Arc.{arc_value};
 
 use crate::serving::Serving;
 use crate::shown::Shown;
 use counted_slot::Fits;
+use lb_health_core::keys::KeyRule;
 use lb_health_view::discovery::DiscoverySource;
 use lb_select_base::walk::BackendSelection;
+use lb_threads_core::registry::HealthRegistry;
 use lb_threads_core::rule::LockRule;
 use lb_threads_core::word_rule::WordRule;
 use std::marker::{Model, PhantomData};
 use std::snapshot::Snapshot;
 use std::sync::Arc;
 
-/// The discovery, the configuration of the selectors, and the generation at which the balancer was made.
+/// The discovery, the configuration of the selectors, the generation at which the balancer was made, and the registry of its health, which
+/// others may share. Contracts see the registry as it was when it came under its lock.
 #[derive(Drop)]
-pub struct Origin<S: BackendSelection, D> {
+pub struct Origin<S: BackendSelection, D, R: KeyRule + Drop, C> {
     pub(crate) discovery: DiscoverySource<D>,
     pub(crate) config: Option<S::Config>,
     pub(crate) first: u64,
+    pub(crate) registry: Arc<HealthRegistry<R, C>>,
 }
 
-impl<S: BackendSelection, D> Model for Origin<S, D> {
+impl<S: BackendSelection, D, R: KeyRule + Drop, C> Model for Origin<S, D, R, C> {
     ghost use Rattle.std.specs.Prelude.{unwrap_or};
+    ghost use Rattle.std.specs.Arc.{arc_value};
     ghost use Rattle.lb_balancer.specs.History.{BalancerValue};
 
-    ghost Value = { BalancerValue D S.Config };
+    ghost Value = { BalancerValue D S.Config R };
 
-    ghost view = { λ o. record { discovery = o.discovery; config = unwrap_or o.config S.default_config; first = o.first } };
+    ghost view = { λ o. record {
+      discovery = o.discovery;
+      config = unwrap_or o.config S.default_config;
+      first = o.first;
+      registry = (arc_value o.registry).start;
+    } };
 }
 
-impl<S: BackendSelection, D> Origin<S, D> {
+impl<S: BackendSelection, D, R: KeyRule + Drop, C> Origin<S, D, R, C> {
     // The discovery.
     pub(crate) fn discovery(&self) -> &DiscoverySource<D>
         ensures { result.now ≡ self.now.discovery }
@@ -44,12 +55,21 @@ impl<S: BackendSelection, D> Origin<S, D> {
     {
         &self.config
     }
+
+    // The registry of health.
+    #[inline]
+    pub(crate) fn registry(&self) -> &HealthRegistry<R, C>
+        ensures { result.now.start ≡ self.now.registry }
+    {
+        &*self.registry
+    }
 }
 
 /// What is served is what the balancer's own updates left.
 pub struct OfServing {}
 
-impl<S: BackendSelection, D> LockRule<Serving<S>, Snapshot<Origin<S, D>>> for OfServing {
+impl<S: BackendSelection, D, R: KeyRule + Drop, C>
+    LockRule<Serving<S>, Snapshot<Origin<S, D, R, C>>> for OfServing {
     ghost use Rattle.lb_balancer.specs.History.{IsServedBy};
 
     ghost holds = { λ key s. IsServedBy key.value s };
@@ -58,7 +78,8 @@ impl<S: BackendSelection, D> LockRule<Serving<S>, Snapshot<Origin<S, D>>> for Of
 /// The number is a generation that the balancer served, at some moment.
 pub struct OfGeneration {}
 
-impl<S: BackendSelection, D> WordRule<Snapshot<Origin<S, D>>> for OfGeneration {
+impl<S: BackendSelection, D, R: KeyRule + Drop, C> WordRule<Snapshot<Origin<S, D, R, C>>>
+    for OfGeneration {
     ghost use Rattle.lb_balancer.specs.History.{IsServedGeneration};
 
     ghost holds = { λ key _ n. IsServedGeneration key.value n };
@@ -67,23 +88,24 @@ impl<S: BackendSelection, D> WordRule<Snapshot<Origin<S, D>>> for OfGeneration {
 /// What is shown is what the balancer's own updates left.
 pub struct OfShown {}
 
-impl<S: BackendSelection, D> LockRule<Arc<Shown<S>>, Snapshot<Origin<S, D>>> for OfShown {
+impl<S: BackendSelection, D, R: KeyRule + Drop, C>
+    LockRule<Arc<Shown<S>>, Snapshot<Origin<S, D, R, C>>> for OfShown {
     ghost use Rattle.std.specs.Arc.{arc_value};
     ghost use Rattle.lb_balancer.specs.History.{IsShownBy};
 
-    ghost holds = { λ key s. IsShownBy key.value (arc_value s) };
+    ghost holds = { λ key s. IsShownBy R.gives key.value (arc_value s) };
 }
 
 /// What is shown, in a lane of the balancer that showed it.
 #[derive(Drop)]
-pub struct KeptShown<S: BackendSelection, D> {
+pub struct KeptShown<S: BackendSelection, D, R: KeyRule + Drop, C> {
     pub(crate) shown: Arc<Shown<S>>,
-    of: PhantomData<Origin<S, D>>,
+    of: PhantomData<Origin<S, D, R, C>>,
 }
 
-impl<S: BackendSelection, D> KeptShown<S, D> {
+impl<S: BackendSelection, D, R: KeyRule + Drop, C> KeptShown<S, D, R, C> {
     // What is shown, for a lane.
-    pub(crate) fn new(shown: Arc<Shown<S>>) -> KeptShown<S, D>
+    pub(crate) fn new(shown: Arc<Shown<S>>) -> KeptShown<S, D, R, C>
         ensures { result.shown ≡ shown }
     {
         KeptShown {
@@ -93,11 +115,11 @@ impl<S: BackendSelection, D> KeptShown<S, D> {
     }
 }
 
-impl<S: BackendSelection, D> Fits for KeptShown<S, D> {
+impl<S: BackendSelection, D, R: KeyRule + Drop, C> Fits for KeptShown<S, D, R, C> {
     ghost use Rattle.std.specs.Arc.{arc_value};
     ghost use Rattle.lb_balancer.specs.History.{IsShownBy};
 
-    type Tag = Origin<S, D>;
+    type Tag = Origin<S, D, R, C>;
 
-    ghost fits = { λ origin kept. IsShownBy origin (arc_value kept.shown) };
+    ghost fits = { λ origin kept. IsShownBy R.gives origin (arc_value kept.shown) };
 }

@@ -15,7 +15,7 @@ use lb_rebuild_core::group::ready_ones;
 use lb_select_base::backend::Backend;
 use lb_select_base::refusal::Refusal;
 use lb_select_base::walk::BackendSelection;
-use lb_threads_core::generators::LaneGenerator;
+use lb_threads_core::generators::SharedGenerator;
 use std::alloc::Global;
 use std::sync::{Arc, Wait};
 
@@ -25,8 +25,8 @@ use std::sync::{Arc, Wait};
 pub struct BalancerReader<'b, S: BackendSelection, D, R: KeyRule + Drop, C> {
     balancing: &'b Balancing<S, D, R, C>,
     seen: Arc<Shown<S>>,
-    generator: LaneGenerator,
-    ghost own: { IsShownBy balancing.now (arc_value seen) },
+    generator: SharedGenerator,
+    ghost own: { IsShownBy R.gives balancing.now (arc_value seen) },
 }
 
 impl<'b, S: BackendSelection, D, R: KeyRule + Drop, C> Drop for BalancerReader<'b, S, D, R, C> {
@@ -61,7 +61,7 @@ impl<
         Ok(BalancerReader {
             balancing,
             seen,
-            generator: balancing.generators.of_none().seeded(rt),
+            generator: balancing.generator.seeded(),
         })
     }
 }
@@ -109,7 +109,7 @@ impl<
         ensures answers { OnOk result
             (SelectsFrom (λ was_ready. was_ready) max_iterations S.walks key.now (arc_value self.new.seen) result) }
         ensures later { (arc_value self.old.seen).generation ≤ (arc_value self.new.seen).generation }
-        ensures shown { IsShownBy self.old.balancing.now (arc_value self.new.seen) }
+        ensures shown { IsShownBy R.gives self.old.balancing.now (arc_value self.new.seen) }
         ensures refused { IfErr result (λ e. e ≡ Refusal.OutOfMemory) }
         ensures same { self.new.balancing ≡ self.old.balancing }
     {
@@ -129,7 +129,7 @@ impl<
         ensures answers { OnOk result
             (SelectsFrom (AcceptsBy F.Fn accept.now) max_iterations S.walks key.now (arc_value self.new.seen) result) }
         ensures later { (arc_value self.old.seen).generation ≤ (arc_value self.new.seen).generation }
-        ensures shown { IsShownBy self.old.balancing.now (arc_value self.new.seen) }
+        ensures shown { IsShownBy R.gives self.old.balancing.now (arc_value self.new.seen) }
         ensures refused { IfErr result (λ e. e ≡ Refusal.OutOfMemory) }
         ensures same { self.new.balancing ≡ self.old.balancing }
     {

@@ -9,9 +9,9 @@ ghost use Rattle.lb_health_core.specs.Registry.{IsRegistryAfter};
 ghost use Rattle.lb_health_core.specs.RegistryEvents.{Event, Marked, Released};
 ghost use Rattle.lb_health_view.specs.Views.{IsFounded, IsViewAfter, IsViewRefusal};
 ghost use Rattle.lb_health_view.specs.RegistrySide.{registry_updated, settings_of, view_updated};
-ghost use Rattle.lb_health_view.specs.ViewEvents.{ViewEvent, Set, generation_after, membership_after};
+ghost use Rattle.lb_health_view.specs.ViewEvents.{ViewEvent, generation_after, membership_after};
 ghost use Rattle.lb_balancer_core.specs.Balancer.{IsJudged};
-ghost use Rattle.lb_balancer.specs.History.{Takes, TakesIn};
+ghost use Rattle.lb_balancer.specs.History.{SetsFlag, Takes, TakesIn};
 ghost use Rattle.lb_balancer.specs.SharedUpdates.{IsRoomRefusal};
 ghost use Rattle.lb_balancer.specs.Shown.{AreUnready, ShowsView};
 
@@ -239,8 +239,7 @@ impl<S: BackendSelection> Serving<S> {
     ///
     /// It takes no memory.
     pub fn set_enable(&mut self, backend: &Backend, enabled: bool)
-        ensures view { (views : List ViewEvent) → IsViewAfter views self.old.view
-            → IsViewAfter (Set backend.now enabled ∷ views) self.new.view }
+        ensures view { SetsFlag backend.now enabled self.old self.new }
         ensures members { self.new.members ≡ self.old.members }
         ensures config { self.new.config ≡ self.old.config }
     {

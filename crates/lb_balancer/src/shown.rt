@@ -13,7 +13,7 @@ use lb_select_base::refusal::Refusal;
 use lb_select_base::select::select;
 use lb_select_base::walk::BackendSelection;
 use lb_select_base::words::SharedWords;
-use lb_threads_core::generators::LaneGenerator;
+use lb_threads_core::generators::SharedGenerator;
 use lb_threads_core::loads::{LoadWords, SharedLoads};
 use std::alloc::Global;
 use std::collections::BTreeSet;
@@ -137,7 +137,7 @@ impl<S: BackendSelection> Shown<S> {
         &self,
         rt: &W,
         alloc: Global,
-        generator: Option<&LaneGenerator>,
+        generator: Option<&SharedGenerator>,
         key: &[u8],
         max_iterations: usize,
         accept: &F,

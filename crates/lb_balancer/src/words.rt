@@ -1,7 +1,7 @@
 //! The words of one walk in a balancer that threads share: those of its selector, with the loads that are set at the balancer.
 use lb_select_base::backend::Backend;
 use lb_select_base::words::{LentWords, WordSource};
-use lb_threads_core::generators::LaneGenerator;
+use lb_threads_core::generators::SharedGenerator;
 use lb_threads_core::loads::{LoadWords, SharedLoads};
 use std::sync::Wait;
 
@@ -10,7 +10,7 @@ use std::sync::Wait;
 pub(crate) struct LoadedWords<'a, R> {
     pub(crate) words: LentWords<'a, R>,
     // Where random words are from, if not from the selector's words.
-    pub(crate) generator: Option<&'a LaneGenerator>,
+    pub(crate) generator: Option<&'a SharedGenerator>,
     pub(crate) loads: &'a SharedLoads,
     // The words for the loads of the members.
     pub(crate) load_words: Option<&'a LoadWords>,
@@ -28,7 +28,7 @@ impl<'a, R: Wait> WordSource for LoadedWords<'a, R> {
 
     fn random(&mut self) -> u64 {
         match self.generator {
-            Some(generator) => generator.random(self.rt),
+            Some(generator) => generator.random(),
             None => self.words.random(),
         }
     }

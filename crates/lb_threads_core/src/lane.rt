@@ -3,16 +3,19 @@
 ghost use Rattle.std.specs.Prelude.{◌≡◌, ◌%◌, ◌<◌, IfOk, IfSome};
 ghost use Rattle.counted_slot.specs.Counting.{readers};
 
+use crate::generators::SharedGenerator;
 use counted_slot::{Claim, Counted, FREE, Fits, MARKED, MOST_READERS, ONE_READER, PRESENT, TAKEN};
 
 // How often a reader tries one lane, since other readers change its word.
 const READS: u32 = 3;
 
-/// A value that may be there, with so much room on both sides that its word shares a line of memory with no other lane, and with nothing
-/// else. Contracts see the key that each value of it fits, as `slot`.
+/// A value that may be there, with random words, and with so much room on both sides that its word shares a line of memory with no other
+/// lane, and with nothing else. Contracts see the key that each value of it fits, as `slot`.
 #[derive(Drop)]
 pub struct Lane<X: Fits + Drop> {
-    room: [u64; 7],
+    room: [u64; 6],
+    // Right before the word of the slot, so that who counts itself there finds both in one line.
+    generator: SharedGenerator,
     pub slot: Counted<Option<X>>,
     more_room: [u64; 7],
 }
@@ -46,15 +49,21 @@ fn reader_count(word: u64) -> u64
 }
 
 impl<X: Fits + Drop> Lane<X> {
-    // An empty lane for values that fit this key.
-    pub(crate) fn new(key: &X::Tag) -> Lane<X>
+    // An empty lane for values that fit this key, with the random words of this seed.
+    pub(crate) fn new(key: &X::Tag, seed: u64) -> Lane<X>
         ensures { result.slot ≡ key.now }
     {
         Lane {
-            room: [0; 7],
+            room: [0; 6],
+            generator: SharedGenerator::new(seed),
             slot: Counted::new(None, key),
             more_room: [0; 7],
         }
+    }
+
+    // The random words of the lane.
+    pub(crate) fn generator(&self) -> &SharedGenerator {
+        &self.generator
     }
 
     // Reads the value, where one is there and the lane isn't marked.

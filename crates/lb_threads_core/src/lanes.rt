@@ -1,6 +1,7 @@
 //! Lanes of one owner, which it fills with what it serves. All have the owner's key, which each value fits.
 ghost use Rattle.std.specs.Prelude.{◌≡◌, All, IfOk, IfSome, vec_len};
 
+use crate::generators::SharedGenerator;
 use crate::lane::{Lane, Seen, Unread};
 use counted_slot::{FREE, Fits, PRESENT};
 use std::alloc::{AllocError, Global};
@@ -15,16 +16,21 @@ pub struct Lanes<X: Fits + Drop> {
 }
 
 impl<X: Fits + Drop> Lanes<X> {
-    /// Returns so many empty lanes, best a power of two: of another number some serve no hint.
+    /// Returns so many empty lanes, best a power of two: of another number some serve no hint. The words of `seeds` seed their generators.
     ///
     /// Refused where memory is refused.
-    pub fn new(alloc: Global, count: usize, key: &X::Tag) -> Result<Lanes<X>, AllocError>
+    pub fn new(
+        alloc: Global,
+        count: usize,
+        key: &X::Tag,
+        seeds: &SharedGenerator,
+    ) -> Result<Lanes<X>, AllocError>
         ensures keyed { IfOk result (λ l. All (λ lane. lane.slot ≡ key.now) l.lanes.items) }
         ensures count { IfOk result (λ l. vec_len l.lanes ≡ count) }
     {
         let mut lanes = Vec::with_capacity(alloc, count)?;
         for _ in 0..count {
-            lanes.push(Lane::new(key))?;
+            lanes.push(Lane::new(key, seeds.random()))?;
         }
         Ok(Lanes { lanes })
     }
@@ -41,6 +47,15 @@ impl<X: Fits + Drop> Lanes<X> {
     {
         let _ = key;
         self.lanes.get(self.place(hint))
+    }
+
+    /// Returns the random words of the hint's lane, or `None` without lanes.
+    #[inline]
+    pub fn generator(&self, hint: u64) -> Option<&SharedGenerator> {
+        match self.lanes.get(self.place(hint)) {
+            Some(lane) => Some(lane.generator()),
+            None => None,
+        }
     }
 
     /// Reads what the hint's lane has, or, where it is busy, one of the next three.

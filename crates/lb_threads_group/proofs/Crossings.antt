@@ -8,7 +8,7 @@ use Rattle.lb_select_base.specs.declared.walk.BackendIter.{Ghosts as Iter}
 use Rattle.lb_health_core.specs.declared.keys.KeyRule.{Ghosts as Keys}
 use Rattle.lb_threads_core.proofs.loads.SharedLoads.TheSendSync as loads
 use Rattle.lb_threads_core.proofs.loads.LoadWords.TheSendSync as load_words
-use Rattle.lb_threads_core.proofs.generators.LaneGenerators.TheSendSync as generators
+use Rattle.lb_threads_core.proofs.generators.SharedGenerator.TheSendSync as generator
 use Rattle.lb_threads_core.proofs.lock.KeyedLock.TheSendSync as lock
 use Rattle.lb_rebuild.proofs.board.Board.TheSendSync as board
 use Rattle.lb_rebuild.specs.contracts.watched.Watched as watched
@@ -140,7 +140,7 @@ module _ (T R H I C W : RattleType) (g : Selection T.Denot I.Denot C.Denot W.Den
                             (
                               search (sendable, crosses, lock.the_send, lock.the_field_send, slot_words_send, slot_words_sync) depth 20,
                               (
-                                search (sendable, crosses, generators.the_send, generators.the_sync) depth 20,
+                                search (sendable, crosses, generator.the_send, generator.the_sync) depth 20,
                                 (search (sendable, crosses, numbered.the_field_send) depth 30, tt),
                               ),
                             ),
@@ -183,7 +183,7 @@ module _ (T R H I C W : RattleType) (g : Selection T.Denot I.Denot C.Denot W.Den
                             (
                               search (sendable, crosses, lock.the_sync, lock.the_field_sync, slot_words_send, slot_words_sync) depth 20,
                               (
-                                search (sendable, crosses, generators.the_send, generators.the_sync) depth 20,
+                                search (sendable, crosses, generator.the_send, generator.the_sync) depth 20,
                                 (search (sendable, crosses, numbered.the_field_sync) depth 30, tt),
                               ),
                             ),

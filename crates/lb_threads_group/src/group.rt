@@ -21,7 +21,7 @@ use lb_select_base::moments::MomentSource;
 use lb_select_base::refusal::Refusal;
 use lb_select_base::walk::BackendSelection;
 use lb_threads_core::gate::SelectorRebuildGate;
-use lb_threads_core::generators::LaneGenerators;
+use lb_threads_core::generators::SharedGenerator;
 use lb_threads_core::keyed::NoRule;
 use lb_threads_core::lanes::Lanes;
 use lb_threads_core::loads::SharedLoads;
@@ -29,6 +29,7 @@ use lb_threads_core::lock::KeyedLock;
 use lb_threads_core::registry::{HealthRegistry, put_registry, take_registry};
 use lb_threads_core::rule::LockRule;
 use lb_threads_core::wakes::Wakes;
+use rand_core::Rng;
 use rand_pcg::Pcg64;
 use std::alloc::Global;
 use std::marker::Model;
@@ -91,8 +92,8 @@ pub struct SharedGroup<S: BackendSelection, R: KeyRule + Drop = Rule<NoRule>, C 
     pub(crate) alloc: Global,
     // The words of each slot.
     pub(crate) words: Vec<WordsLock<S, R, C>>,
-    // The random words of each lane, for all slots.
-    generators: LaneGenerators,
+    // Seeded the random words of the lanes.
+    generator: SharedGenerator,
     // What readings load.
     pub(crate) numbers: GroupNumbers<S>,
 }
@@ -112,7 +113,7 @@ impl<S: BackendSelection, R: KeyRule + Drop, C: Drop> Drop for SharedGroup<S, R,
             lanes: _,
             alloc: _,
             words: _,
-            generators: _,
+            generator: _,
             numbers: _,
         } = self;
     }
@@ -148,7 +149,7 @@ impl<S: BackendSelection, R: KeyRule + Drop, C> Model for SharedGroup<S, R, C> {
 impl<S: BackendSelection, R: KeyRule + Drop, C: HealthCheck + Drop> SharedGroup<S, R, C> {
     /// Returns this group, for threads, on a board of its own.
     ///
-    /// Random words are those of a generator for each lane, which this one seeds, and of this one for passes. All loads are 0.
+    /// Random words are those of a generator for each lane, which this one seeds; passes draw those of the first lane. All loads are 0.
     ///
     /// # Errors
     ///
@@ -170,11 +171,12 @@ impl<S: BackendSelection, R: KeyRule + Drop, C: HealthCheck + Drop> SharedGroup<
         let lines = lines_of(alloc, board.word_count() - 1)?;
         let key = Snapshot::of(&watched);
         let site = Site::of(&watched, &*registry);
-        let lanes = lanes_of(alloc, board.word_count() - 1, &site)?;
+        let mut seeds = generator;
+        let generator = SharedGenerator::new(seeds.next_u64());
+        let lanes = lanes_of(alloc, board.word_count() - 1, &site, &generator)?;
         let words = words_of(alloc, board.word_count() - 1, &site)?;
         let numbers = numbers_of(alloc, board.word_count() - 1, &key)?;
         let lock = KeyedLock::new(alloc, watched, &key)?;
-        let generators = LaneGenerators::new(alloc, LANES, generator)?;
         Ok(SharedGroup {
             lock,
             board,
@@ -193,7 +195,7 @@ impl<S: BackendSelection, R: KeyRule + Drop, C: HealthCheck + Drop> SharedGroup<
             lanes,
             alloc,
             words,
-            generators,
+            generator,
             numbers,
         })
     }
@@ -345,14 +347,14 @@ impl<S: BackendSelection, R: KeyRule + Drop, C: HealthCheck + Drop> SharedGroup<
         told
     }
 
-    // The next random word of a lane.
-    pub(crate) fn random_of<W: Wait>(&self, rt: &W, lane: u64) -> u64 {
-        self.generators.of_lane(lane).random(rt)
-    }
-
-    // The next random word of no lane.
-    pub(crate) fn random<W: Wait>(&self, rt: &W) -> u64 {
-        self.generators.of_none().random(rt)
+    // The next random word of a slot's lane.
+    #[inline]
+    pub(crate) fn random_of(&self, slot: usize, lane: u64) -> u64 {
+        let generator = match self.lanes.get(slot) {
+            Some(lanes) => lanes.generator(lane),
+            None => None,
+        };
+        generator.unwrap_or(&self.generator).random()
     }
 
     /// Sets the load of a backend's identity, for all slots.
@@ -393,13 +395,14 @@ fn lanes_of<S: BackendSelection, R: KeyRule + Drop, C>(
     alloc: Global,
     slots: usize,
     site: &Site<S, R, C>,
+    seeds: &SharedGenerator,
 ) -> Result<Vec<SlotLanes<S, R, C>>, Refusal>
     ensures keyed { IfOk result (λ l. All (λ s. All (λ lane. lane.slot ≡ site.now) s.lanes.items) l.items) }
     ensures refused { IfErr result (λ e. e ≡ Refusal.OutOfMemory) }
 {
     let mut lanes = Vec::new(alloc);
     for _ in 0..slots {
-        lanes.push(Lanes::new(alloc, LANES, site)?)?;
+        lanes.push(Lanes::new(alloc, LANES, site, seeds)?)?;
     }
     Ok(lanes)
 }

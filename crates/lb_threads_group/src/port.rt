@@ -224,9 +224,9 @@ impl<'g, 'r, 'f, S: BackendSelection, R: KeyRule + Drop, C: HealthCheck + Drop, 
         }
     }
 
-    fn random(&mut self, _reader: &Reader<S>) -> u64 {
+    fn random(&mut self, reader: &Reader<S>) -> u64 {
         let group = self.group;
-        group.random_of(self.rt, self.lane)
+        group.random_of(reader.slot(), self.lane)
     }
 
     fn load(&self, _reader: &Reader<S>, backend: &Backend) -> u64 {

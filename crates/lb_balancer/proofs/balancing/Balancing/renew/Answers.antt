@@ -4,7 +4,7 @@ use Rattle.lb_health_view.specs.RegistrySide.{settings_of}
 use Rattle.lb_threads_core.proofs.Histories.{later}
 use Rattle.lb_balancer.proofs.Memberships.{on-ok-more}
 use Rattle.lb_balancer.proofs.Renewals.{renewed_later}
-use Rattle.lb_balancer.proofs.Served.{known, renewed}
+use Rattle.lb_balancer.proofs.Served.{known, of-registry, renewed}
 use Rattle.lb_balancer.proofs.balancing.Balancing.renew.Goals as goal
 use Rattle.lb_balancer.proofs.balancing.Balancing.renew.Goals.{in-Ok, in-Err}
 
@@ -17,8 +17,15 @@ put_registry-requires-clause-registry g c =
     in
     elim c.match-answer.branch [ in-Ok w ↦ rw w.cells-is now | in-Err w ↦ rw w.cells-is now ]
 
-pub exchange-unshown-requires : goal.exchange-unshown-requires
-exchange-unshown-requires g c =
+pub exchange-unshown-requires-clause-registry : goal.exchange-unshown-requires-clause-registry
+exchange-unshown-requires-clause-registry g c =
+    let is = c.renew-unserved.ensures in
+    of-registry g.R.KeyRule.gives c.registry-registries.ensures c.self.view_is
+    (later c.take_registry-cells.ensures.registry (renewed_later c.renew-unserved.result.1 c.take-held.result.value.view
+    c.args.members.keys c.founded.ensures is.registry is.registry_err))
+
+pub exchange-unshown-requires-clause-served : goal.exchange-unshown-requires-clause-served
+exchange-unshown-requires-clause-served g c =
     let is = c.renew-unserved.ensures in
     renewed c.args.self.now c.renew-unserved.result.1 (known (c.self.invariant.0 ∙ c.self.view_is) c.take-held.ensures.fact) is.config
     c.args.members.keys (settings_of c.args.settings.entries) c.requires.discovered is.took is.view_err

@@ -26,7 +26,7 @@ returns-clause-updated g c = record {
   settings = settings_of c.in_ok-members.settings.entries;
   discovered =
       subst (λ d. Discovers g.D.ServiceDiscovery.finds d c.in_ok-members.members.keys (settings_of c.in_ok-members.settings.entries))
-      (c.discovery.ensures ∙ ap (λ (b : BalancerValue g.row.D.Denot g.row.S-Config.Denot). b.discovery) c.self.view_is)
+      (c.discovery.ensures ∙ ap (λ (b : BalancerValue g.row.D.Denot g.row.S-Config.Denot g.row.R.Denot). b.discovery) c.self.view_is)
       c.in_ok-members.ensures.ok;
   taken = c.in_ok-build_duration.ensures.taken;
 }

@@ -41,6 +41,7 @@ returns-in_err-serving-clause-refused g c =
 
 pub returns-clause-made : goal.returns-clause-made
 returns-clause-made g c =
+    let Balancer = BalancerValue g.row.D.Denot g.row.S-Config.Denot (Rule g.row.N.Denot) in
     let looked = c.in_ok-found.ensures.made in
     let found = c.in_ok-found.found in
     let members : c.in_ok-members.members.keys ≡ found = c.in_ok-members.ensures.ok in
@@ -48,17 +49,18 @@ returns-clause-made g c =
     c.now-end.new.self
     c.now-start.ensures c.in_ok-built.ensures.reads c.now-end.ensures in
     let first = c.generation.ensures _ c.in_ok-serving.ensures.served.0 ∙ first-generation c.in_ok-members.members.keys in
-    let began = ap (λ (b : BalancerValue g.row.D.Denot g.row.S-Config.Denot). b.first) c.in_ok-shared.ensures.made ∙ first in (
+    let began = ap (λ (b : Balancer). b.first) c.in_ok-shared.ensures.made ∙ first in (
       looked.0,
       looked.1,
       record {
         members = found;
         times = times.0;
         looked_up = looked.2;
-        keeps = ap (λ (b : BalancerValue g.row.D.Denot g.row.S-Config.Denot). b.discovery) c.in_ok-shared.ensures.made;
+        keeps = ap (λ (b : Balancer). b.discovery) c.in_ok-shared.ensures.made;
         read = times.1;
         readings = subst (λ ms. length times.0 ≡ (if same_members ms [] then 2 else 4)) members times.2;
         began = subst (λ ms. c.in_ok-shared.shared.first ≡ (if same_members ms [] then 0 else 1)) members began;
+        starts = search rules;
       },
     )
 

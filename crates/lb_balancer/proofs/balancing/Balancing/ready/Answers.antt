@@ -1,0 +1,19 @@
+-- It is judged by what is served and the registry as they are.
+use Rattle.std.proofs.Common.{◌∙◌}
+use Rattle.lb_balancer.proofs.Served.{known, of-registry}
+use Rattle.lb_balancer.proofs.balancing.Balancing.ready.Goals as goal
+
+pub returns : goal.returns
+returns g c = (
+  c.take-held.result.value,
+  (
+    known (c.self.invariant.0 ∙ c.self.view_is) c.take-held.ensures.fact,
+    (
+      c.take_registry-cells.result.value,
+      (
+        of-registry g.R.KeyRule.gives c.registry-registries.ensures c.self.view_is c.take_registry-cells.ensures.registry,
+        c.ready.ensures,
+      ),
+    ),
+  ),
+)
