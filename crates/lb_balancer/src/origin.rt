@@ -68,8 +68,10 @@ impl<S: BackendSelection, D, R: KeyRule + Drop, C> Origin<S, D, R, C> {
 /// What is served is what the balancer's own updates left.
 pub struct OfServing {}
 
-impl<S: BackendSelection, D, R: KeyRule + Drop, C>
-    LockRule<Serving<S>, Snapshot<Origin<S, D, R, C>>> for OfServing {
+impl<S: BackendSelection, D, R: KeyRule + Drop, C> LockRule<
+    Serving<S>,
+    Snapshot<Origin<S, D, R, C>>,
+> for OfServing {
     ghost use Rattle.lb_balancer.specs.History.{IsServedBy};
 
     ghost holds = { λ key s. IsServedBy key.value s };
@@ -88,8 +90,10 @@ impl<S: BackendSelection, D, R: KeyRule + Drop, C> WordRule<Snapshot<Origin<S, D
 /// What is shown is what the balancer's own updates left.
 pub struct OfShown {}
 
-impl<S: BackendSelection, D, R: KeyRule + Drop, C>
-    LockRule<Arc<Shown<S>>, Snapshot<Origin<S, D, R, C>>> for OfShown {
+impl<S: BackendSelection, D, R: KeyRule + Drop, C> LockRule<
+    Arc<Shown<S>>,
+    Snapshot<Origin<S, D, R, C>>,
+> for OfShown {
     ghost use Rattle.std.specs.Arc.{arc_value};
     ghost use Rattle.lb_balancer.specs.History.{IsShownBy};
 

@@ -228,7 +228,7 @@ impl<'g, 'r, S: BackendSelection, R: KeyRule + Drop, C: HealthCheck + Drop, W: W
 
     fn random(&mut self) -> u64 {
         let group = self.group;
-        group.random_of(reader.slot(), 0)
+        group.random_of(self.slot, 0)
     }
 
     fn load(&self, backend: &Backend) -> u64 {
