@@ -1,4 +1,5 @@
-//! Locks and gates that several threads use at once.
+//! Locks, gates and generators that several threads use at once.
+use lb_threads_core::generators::SharedGenerator;
 use lb_threads_core::lock::KeyedLock;
 use lb_threads_core::rule::LockRule;
 use pingora_load_balancing::SelectorRebuildGate;
@@ -69,4 +70,23 @@ fn one_permit_at_a_time(rt: HostRuntime) {
     let gate = SelectorRebuildGate::new(rt.alloc()).expect(&rt, "refused");
     let told = (granted_beside(&rt, &gate), granted(&rt, &gate));
     assert_eq!(rt; told, (Some([false; 2]), true));
+}
+
+// The first words of SplitMix64 by the seed 1234567, as its reference program prints them.
+#[test]
+fn words_of_a_generator(rt: HostRuntime) {
+    let generator = SharedGenerator::new(1_234_567);
+    let drawn = [
+        generator.random(),
+        generator.random(),
+        generator.random(),
+        generator.random(),
+    ];
+    let words = [
+        6_457_827_717_110_365_317,
+        3_203_168_211_198_807_973,
+        9_817_491_932_198_370_423,
+        4_593_380_528_125_082_431,
+    ];
+    assert_eq!(rt; drawn, words);
 }
