@@ -61,31 +61,3 @@ pub of-told : {F : Type 0} {g : Shared F (Bor Member × (Bool × Unit {0})) Bool
 of-told {g = g} {f = f} right limit walks r is same =
     of-more same_member (λ b a. AcceptsBy g f right b a) right
     (λ b a by. subst (λ x. right b x) (sym (same by.shown by.told a by.says)) by.is_right) limit walks r is
-
-as-told : (right : Bool → Type 0) (b : Bool) → ((ready : Bool) × right ready × (b ≡ not ready)) → right (not b)
-as-told right b (true, r, is) = subst (λ x. right (not x)) (sym is) r
-as-told right b (false, r, is) = subst (λ x. right (not x)) (sym is) r
-
--- a closure that keeps what isn't ready, and stays as it is, leaves those that aren't
-module _ {F : Type 0} (g : Mut F (Bor Member × Unit {0}) Bool) (right : Member → Bool → Type 0) (f : F)
-    (tells : (m : Member) (b : Bool) (f' : F) → CalledAt g f m b f' → ((ready : Bool) × right m ready × (b ≡ not ready)) × (f' ≡ f)) where
-  parted : (bs : List Bool) (ms : List Member) (q : F) → length bs ≡ length ms → ReturnsInTurn (CalledAt g) f bs ms q
-      → AreUnready right ms (items_where_true bs ms)
-  parted [] [] q e t = refl
-  parted [] (m ∷ ms) q e t = absurd (omega arith)
-  parted (b ∷ bs) [] q e t = absurd t
-  parted (true ∷ bs) (m ∷ ms) q e t =
-      let one = tells m true t.0 t.1 in (
-        items_where_true bs ms,
-        parted bs ms q (omega arith) (subst (λ (y : F). ReturnsInTurn (CalledAt g) y bs ms q) one.1 t.2),
-        inl (as-told (right m) true one.0, refl),
-      )
-  parted (false ∷ bs) (m ∷ ms) q e t =
-      let one = tells m false t.0 t.1 in (
-        items_where_true bs ms,
-        parted bs ms q (omega arith) (subst (λ (y : F). ReturnsInTurn (CalledAt g) y bs ms q) one.1 t.2),
-        inr (as-told (right m) false one.0, refl),
-      )
-
-  pub kept_unready : (ms us : List Member) → IsFiltered (CalledAt g) f ms us → AreUnready right ms us
-  kept_unready ms us k = subst (AreUnready right ms) (sym k.4) (parted k.0 ms k.1 k.2 k.3)

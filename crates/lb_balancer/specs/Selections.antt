@@ -3,7 +3,13 @@ use Rattle.std.specs.Prelude.{◌≡◌, ℕ, Bool, List, Option, Result}
 use Rattle.lb_select_base.specs.Backends.{Member, same_member}
 use Rattle.lb_select_base.specs.Draws.{Draw}
 use Rattle.lb_select_base.specs.declared.refusal.Refusal.{Refusal}
+use Rattle.lb_balancer.specs.History.{BalancerValue}
 use Rattle.lb_balancer.specs.Shown.{SelectsOf, ShownValue, is_up}
+
+-- what is known of a reader: its balancer, and what it saw last
+pub record ReaderValue (D C R : Type 0) : Type 0 where
+  pub balancing : BalancerValue D C R
+  pub seen : ShownValue C
 
 -- whether a backend was ready in what is shown
 abbrev pub WasReady : {C : Type 0} → ShownValue C → Member → Bool → Type 0

@@ -1,6 +1,5 @@
 //! A balancer for one thread that selects all the time: it keeps what was served at its last selection.
 ghost use Rattle.std.specs.Prelude.{◌≡◌, ◌≤◌, IfErr, IfOk, OnOk};
-ghost use Rattle.std.specs.Arc.{arc_value};
 ghost use Rattle.lb_rebuild_core.specs.GroupCalls.{AcceptsBy};
 ghost use Rattle.lb_balancer.specs.History.{IsShownBy};
 ghost use Rattle.lb_balancer.specs.Selections.{SelectsFrom};
@@ -17,6 +16,7 @@ use lb_select_base::refusal::Refusal;
 use lb_select_base::walk::BackendSelection;
 use lb_threads_core::generators::SharedGenerator;
 use std::alloc::Global;
+use std::marker::Model;
 use std::sync::{Arc, Wait};
 
 /// A balancer with what it served last, and with random words of its own. While that is still served a selection takes no lock that another
@@ -26,7 +26,6 @@ pub struct BalancerReader<'b, S: BackendSelection, D, R: KeyRule + Drop, C> {
     balancing: &'b Balancing<S, D, R, C>,
     seen: Arc<Shown<S>>,
     generator: SharedGenerator,
-    ghost own: { IsShownBy R.gives balancing.now (arc_value seen) },
 }
 
 impl<'b, S: BackendSelection, D, R: KeyRule + Drop, C> Drop for BalancerReader<'b, S, D, R, C> {
@@ -37,6 +36,19 @@ impl<'b, S: BackendSelection, D, R: KeyRule + Drop, C> Drop for BalancerReader<'
             generator: _,
         } = self;
     }
+}
+
+// What a reader saw its balancer showed.
+impl<'b, S: BackendSelection, D, R: KeyRule + Drop, C> Model for BalancerReader<'b, S, D, R, C> {
+    ghost use Rattle.std.specs.Arc.{arc_value};
+    ghost use Rattle.lb_balancer.specs.History.{IsShownBy};
+    ghost use Rattle.lb_balancer.specs.Selections.{ReaderValue};
+
+    ghost Value = { ReaderValue D S.Config R };
+
+    ghost view = { λ r. record { balancing = r.balancing.now; seen = arc_value r.seen } };
+
+    ghost invariant = { λ r. IsShownBy R.gives r.balancing.now (arc_value r.seen) };
 }
 
 impl<
@@ -53,7 +65,7 @@ impl<
         rt: &W,
         alloc: Global,
     ) -> Result<BalancerReader<'b, S, D, R, C>, Refusal>
-        ensures same { IfOk result (λ r. r.balancing.now ≡ self.entry.now.shared) }
+        ensures same { IfOk result (λ r. r.balancing ≡ self.entry.now.shared) }
         ensures refused { IfErr result (λ e. e ≡ Refusal.OutOfMemory) }
     {
         let balancing = &self.shared;
@@ -76,7 +88,7 @@ impl<
     // Looks whether something changed since, and takes what is served now, which is no older than what was seen.
     fn look<W: Wait>(&mut self, rt: &W, alloc: Global) -> Result<(), Refusal>
         ensures same { self.new.balancing ≡ self.old.balancing }
-        ensures later { (arc_value self.old.seen).generation ≤ (arc_value self.new.seen).generation }
+        ensures later { self.old.seen.generation ≤ self.new.seen.generation }
         ensures refused { IfErr result (λ e. e ≡ Refusal.OutOfMemory) }
     {
         if self.seen.version() == self.balancing.version() {
@@ -92,7 +104,7 @@ impl<
 
     /// Returns the generation that the reader saw last. What it selects from later is of that generation or a newer one.
     pub fn generation(&self) -> u64
-        ensures { result ≡ (arc_value self.now.seen).generation }
+        ensures { result ≡ self.now.seen.generation }
     {
         self.seen.generation()
     }
@@ -107,9 +119,9 @@ impl<
         max_iterations: usize,
     ) -> Result<Option<Backend>, Refusal>
         ensures answers { OnOk result
-            (SelectsFrom (λ was_ready. was_ready) max_iterations S.walks key.now (arc_value self.new.seen) result) }
-        ensures later { (arc_value self.old.seen).generation ≤ (arc_value self.new.seen).generation }
-        ensures shown { IsShownBy R.gives self.old.balancing.now (arc_value self.new.seen) }
+            (SelectsFrom (λ was_ready. was_ready) max_iterations S.walks key.now self.new.seen result) }
+        ensures later { self.old.seen.generation ≤ self.new.seen.generation }
+        ensures shown { IsShownBy R.gives self.old.balancing self.new.seen }
         ensures refused { IfErr result (λ e. e ≡ Refusal.OutOfMemory) }
         ensures same { self.new.balancing ≡ self.old.balancing }
     {
@@ -127,9 +139,9 @@ impl<
     ) -> Result<Option<Backend>, Refusal>
         requires { F.IsAlwaysCallable accept.now }
         ensures answers { OnOk result
-            (SelectsFrom (AcceptsBy F.Fn accept.now) max_iterations S.walks key.now (arc_value self.new.seen) result) }
-        ensures later { (arc_value self.old.seen).generation ≤ (arc_value self.new.seen).generation }
-        ensures shown { IsShownBy R.gives self.old.balancing.now (arc_value self.new.seen) }
+            (SelectsFrom (AcceptsBy F.Fn accept.now) max_iterations S.walks key.now self.new.seen result) }
+        ensures later { self.old.seen.generation ≤ self.new.seen.generation }
+        ensures shown { IsShownBy R.gives self.old.balancing self.new.seen }
         ensures refused { IfErr result (λ e. e ≡ Refusal.OutOfMemory) }
         ensures same { self.new.balancing ≡ self.old.balancing }
     {

@@ -282,7 +282,7 @@ impl<S: BackendSelection> Serving<S> {
             words: Arc::try_clone(&self.built.words)?,
             loads: Arc::try_clone(loads)?,
             load_words: self.built.loads_again(),
-            unready: unready_of(&self.view, registry)?,
+            unready: unready_of(alloc, &self.view, registry)?,
             version,
         })
     }
@@ -314,17 +314,9 @@ pub(crate) fn built_of<S: BackendSelection>(
     })
 }
 
-// A copy of a view's newest membership.
-fn copied(view: &ViewCore) -> Result<BTreeSet<Backend>, Refusal>
-    ensures ok { IfOk result (λ set. (views : List ViewEvent) → IsViewAfter views view.now → set.keys ≡ membership_after views) }
-    ensures refused { IfErr result (λ e. e ≡ Refusal.OutOfMemory) }
-{
-    let copy = view.members().clone()?;
-    Ok(copy)
-}
-
-// The members of a view's newest generation that aren't ready.
+// The members of a view's newest generation that aren't ready. No others are copied.
 fn unready_of<R: KeyRule + Drop>(
+    alloc: Global,
     view: &ViewCore,
     registry: &Registry<R>,
 ) -> Result<BTreeSet<Backend>, Refusal>
@@ -332,11 +324,11 @@ fn unready_of<R: KeyRule + Drop>(
         → AreUnready (IsJudged R.gives view.now registry.now) (membership_after views) set.keys) }
     ensures refused { IfErr result (λ e. e ≡ Refusal.OutOfMemory) }
 {
-    let mut unready = copied(view)?;
-    unready.retain(
-        |backend: &Backend| -> bool
-            ensures { (ready : Bool) × IsJudged R.gives view.entry.now registry.entry.now backend.now ready × (result ≡ not ready) }
-        { !view.ready(registry, backend) },
-    );
+    let mut unready = BTreeSet::new(alloc);
+    for backend in view.members() {
+        if !view.ready(registry, backend) {
+            unready.insert(backend.copied(alloc)?)?;
+        }
+    }
     Ok(unready)
 }

@@ -12,7 +12,7 @@ returns g c = (
       c.take_registry-cells.result.value,
       (
         of-registry g.R.KeyRule.gives c.registry-registries.ensures c.self.view_is c.take_registry-cells.ensures.registry,
-        c.ready.ensures,
+        c.ready-ready.ensures,
       ),
     ),
   ),

@@ -1,5 +1,4 @@
 -- What is accepted is what is ready.
-use Rattle.std.specs.Arc.{arc_value}
 use Rattle.lb_balancer.specs.Selections.{WasReady}
 use Rattle.lb_balancer.proofs.Judged.{of-told}
 use Rattle.lb_balancer.proofs.Memberships.{on-ok-more}
@@ -8,7 +7,7 @@ use Rattle.lb_balancer.proofs.reader.BalancerReader.select.Goals as goal
 pub returns-clause-answers : goal.returns-clause-answers
 returns-clause-answers g c =
     let r = c.select_with.result in
-    let seen = arc_value c.select_with.new.self.seen in
+    let seen = c.select_with.new.self.seen in
     let walks = g.S.BackendSelection.walks seen.members seen.config c.args.key.now in
     on-ok-more r _ _ c.select_with.ensures.answers
     (λ found. of-told (WasReady seen) c.args.max_iterations walks r found (λ p told a is. is.met))
