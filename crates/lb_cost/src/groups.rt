@@ -3,6 +3,7 @@
 //! The kind is `fnv`, `ketama`, `least`, `random` or `rr`; `group` or `reader` says how they select. The group has one slot and its worker.
 //! `bench/groups` prints them with a plain program's.
 use crate::shared::{BATCH, Halves, LIMIT, PAUSE, next_key};
+use crate::starting::{Work, joined, starts};
 use crate::words::{Usage, number_at, word_at};
 use anyhow::Error;
 use lb_balancer_group::group::LoadBalancerGroup;
@@ -23,11 +24,11 @@ use lb_threads_core::keyed::NoRule;
 use lb_threads_group::group::SharedGroup;
 use log::Log;
 use std::alloc::Global;
+use std::sync::Wait;
 use std::sync::atomic::AtomicU64;
 use std::sync::atomic::Ordering::SeqCst;
-use std::sync::{Arc, Wait};
 use std::thread;
-use std::thread::{JoinHandle, Threads};
+use std::thread::Threads;
 use std::time::{Clock, Duration};
 
 // How many updates there are for each pass of checks.
@@ -99,7 +100,12 @@ fn select_once<S: BackendSelection, R: KeyRule + Drop, C: HealthCheck + Drop, W:
 }
 
 // Selects for so many seconds by keys of this thread's own; how often. A refusal ends it.
-fn selected<S: BackendSelection, R: KeyRule + Drop, C: HealthCheck + Drop, W: Wait + Clock>(
+pub(crate) fn selected<
+    S: BackendSelection,
+    R: KeyRule + Drop,
+    C: HealthCheck + Drop,
+    W: Wait + Clock,
+>(
     rt: &W,
     alloc: Global,
     group: &SharedGroup<S, R, C>,
@@ -123,35 +129,6 @@ fn selected<S: BackendSelection, R: KeyRule + Drop, C: HealthCheck + Drop, W: Wa
         }
     }
     count
-}
-
-// Starts a thread that selects so; `None` where it can't be started.
-fn starts_selecting<
-    S: BackendSelection + Send + Sync + 'static,
-    R: KeyRule + Drop + Send + Sync + 'static,
-    C: HealthCheck + Drop + Send + Sync + 'static,
-    W: Threads + Wait + Clock + Copy + Send + 'static,
->(
-    rt: &W,
-    alloc: Global,
-    group: &Arc<SharedGroup<S, R, C>>,
-    worker: u64,
-    has_lane: bool,
-    seconds: u64,
-) -> Option<JoinHandle<u64>>
-where
-    S::Iter: Send + Sync + 'static,
-    S::Config: Send + Sync + 'static,
-    S::Walk: Send + Sync + 'static,
-{
-    let shared = Arc::try_clone(group).ok()?;
-    let own = *rt;
-    let lane = if has_lane { group.own_lane() } else { BY_KEY };
-    let started = thread::spawn(rt, move || {
-        let group: &SharedGroup<S, R, C> = &*shared;
-        selected(&own, alloc, group, worker, lane, seconds)
-    });
-    started.ok()
 }
 
 // Updates each 10 milliseconds for so many seconds, and checks with every tenth update.
@@ -232,6 +209,15 @@ where
     Ok(group)
 }
 
+// A lane of the thread's own, or that of each key.
+fn lane_of<S: BackendSelection>(group: &Group<S>, is_own: bool) -> u64 {
+    if is_own {
+        group.shared().own_lane()
+    } else {
+        BY_KEY
+    }
+}
+
 // Selections of so many threads from a new group, while this thread updates it; how many.
 fn all_selected<
     S: BackendSelection + Send + Sync + 'static,
@@ -245,23 +231,15 @@ where
     let group: Group<S> = made(rt, alloc, plan.backends, 1)?;
     let mut handles = Vec::new(alloc);
     for worker in 0..plan.threads {
-        let number = u64::from(worker);
-        handles.push(starts_selecting(
-            rt,
-            alloc,
-            group.shared(),
-            number,
-            plan.has_lanes,
-            plan.seconds,
-        ))?;
+        let work = Work::Selects {
+            worker: u64::from(worker),
+            lane: lane_of(&group, plan.has_lanes),
+            seconds: plan.seconds,
+        };
+        handles.push(starts(rt, alloc, group.shared(), work))?;
     }
     let told = updated(rt, alloc, &group, plan.seconds);
-    let mut count = 0u64;
-    for handle in handles {
-        if let Some(handle) = handle {
-            count = count.wrapping_add(handle.join(rt));
-        }
-    }
+    let count = joined(rt, handles);
     told?;
     Ok(count)
 }

@@ -19,6 +19,7 @@ mod shared;
 mod soak;
 mod soak_groups;
 mod soak_threads;
+mod starting;
 mod words;
 
 use anyhow::Error;

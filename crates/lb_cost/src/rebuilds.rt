@@ -1,6 +1,7 @@
 //! How long it takes from an update of a group until all its slots serve it, while each slot has a reader that stays for a millisecond:
 //! `rebuilds SLOTS UPDATES`. The slots share one gate, and each has a worker. It prints the longest time and the mean, in microseconds.
 use crate::groups::{Group, awaited, made};
+use crate::starting::{Work, joined, starts};
 use crate::words::number_at;
 use anyhow::Error;
 use lb_health_core::health_check::HealthCheck;
@@ -14,9 +15,9 @@ use lb_threads_core::clock::RuntimeClock;
 use lb_threads_group::group::SharedGroup;
 use log::Log;
 use std::alloc::Global;
-use std::sync::{Arc, Wait};
+use std::sync::Wait;
 use std::thread;
-use std::thread::{JoinHandle, Threads};
+use std::thread::Threads;
 use std::time::{Clock, Duration};
 
 // How many backends the group has; every other update leaves one out.
@@ -31,12 +32,12 @@ struct Spent {
 }
 
 // Selects at a slot, where the candidate is looked at for a millisecond, until the group is let go; how often. A refusal ends it.
-fn stayed<S: BackendSelection, R: KeyRule + Drop, C: HealthCheck + Drop, W: Wait + Clock>(
-    rt: &W,
-    alloc: Global,
-    group: &SharedGroup<S, R, C>,
-    slot: usize,
-) -> u64 {
+pub(crate) fn stayed<
+    S: BackendSelection,
+    R: KeyRule + Drop,
+    C: HealthCheck + Drop,
+    W: Wait + Clock,
+>(rt: &W, alloc: Global, group: &SharedGroup<S, R, C>, slot: usize) -> u64 {
     let accept = |_backend: &Backend, ready: bool| {
         thread::sleep(rt, Duration::from_millis(1));
         ready
@@ -52,27 +53,6 @@ fn stayed<S: BackendSelection, R: KeyRule + Drop, C: HealthCheck + Drop, W: Wait
         }
     }
     count
-}
-
-// Starts a thread that selects so; `None` where it can't be started.
-fn starts_staying<
-    S: BackendSelection + Send + Sync + 'static,
-    R: KeyRule + Drop + Send + Sync + 'static,
-    C: HealthCheck + Drop + Send + Sync + 'static,
-    W: Threads + Wait + Clock + Copy + Send + 'static,
->(rt: &W, alloc: Global, group: &Arc<SharedGroup<S, R, C>>, slot: usize) -> Option<JoinHandle<u64>>
-where
-    S::Iter: Send + Sync + 'static,
-    S::Config: Send + Sync + 'static,
-    S::Walk: Send + Sync + 'static,
-{
-    let shared = Arc::try_clone(group).ok()?;
-    let own = *rt;
-    let started = thread::spawn(rt, move || {
-        let group: &SharedGroup<S, R, C> = &*shared;
-        stayed(&own, alloc, group, slot)
-    });
-    started.ok()
 }
 
 // Updates so often, each time until all slots serve it.
@@ -112,16 +92,14 @@ where
     let group: Group<S> = made(rt, alloc, BACKENDS, slots)?;
     let mut handles = Vec::new(alloc);
     for slot in 0..slots {
-        handles.push(starts_staying(rt, alloc, group.shared(), slot as usize))?;
+        let work = Work::Stays {
+            slot: slot as usize,
+        };
+        handles.push(starts(rt, alloc, group.shared(), work))?;
     }
     let told = updated(rt, alloc, &group, updates);
     group.shared().let_go();
-    let mut selections = 0u64;
-    for handle in handles {
-        if let Some(handle) = handle {
-            selections = selections.wrapping_add(handle.join(rt));
-        }
-    }
+    let selections = joined(rt, handles);
     let mut spent = told?;
     spent.selections = selections;
     Ok(spent)

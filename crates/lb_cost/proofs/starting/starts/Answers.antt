@@ -1,5 +1,4 @@
 use mathlib.Core.List.{[], ◌∷◌}
-use denote.Builtin.{u64}
 use denote.Exit.{no}
 use denote.Param.{param, copied}
 use denote.Param.Send.{sendable}
@@ -10,9 +9,11 @@ use Rattle.std.specs.contracts.sync.Arc as Arc
 use Rattle.lb_threads_group.specs.contracts.group.SharedGroup as shared
 use Rattle.lb_threads_group.proofs.Crossings.{shared_send, shared_sync}
 use Rattle.lb_balancer_group.proofs.Crossings.{sent}
-use Rattle.lb_cost.proofs.groups.starts_selecting.Goals as goal
+use Rattle.lb_cost.specs.contracts.starting.Work as work
+use Rattle.lb_cost.proofs.starting.Work.TheSendSync as crossing
+use Rattle.lb_cost.proofs.starting.starts.Goals as goal
 
--- what the closure captures, in the order of its use: the group, the runtime, the allocator and the numbers
+-- what the closure captures, in the order of its use: the group, the runtime, the allocator and the work
 pub spawn-started-requires-send-F : goal.spawn-started-requires-send-F
 spawn-started-requires-send-F g c κs within =
     let T = param 0 g.row.S in let R = param 1 g.row.R in let H = param 2 g.row.C in
@@ -23,5 +24,5 @@ spawn-started-requires-send-F g c κs within =
     b.send-S b.send-S-Config b.sync-S b.sync-S-Config b.send-R b.sync-R b.send-C b.sync-C in
     let y = shared_sync T R H I C W g.S.BackendSelection g.S.Iter.BackendIter g.R.KeyRule
     b.send-S b.send-S-Config b.sync-S b.sync-S-Config b.send-R b.sync-R b.send-C b.sync-C in
-    sent 1 _ no _ (Arc.the_row group heap.the_row ghosts ∷ copied 3 g.row.W ∷ heap.the_row ∷ u64 ∷ u64 ∷ u64 ∷ [])
-    (Arc-send group s y, (b.send-W, (send, (search sendable depth 20, (search sendable depth 20, (search sendable depth 20, tt))))))
+    sent 1 _ no _ (Arc.the_row group heap.the_row ghosts ∷ copied 3 g.row.W ∷ heap.the_row ∷ work.the_row ∷ [])
+    (Arc-send group s y, (b.send-W, (send, (search (sendable, crossing.the_send) depth 20, tt))))
