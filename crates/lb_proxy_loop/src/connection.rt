@@ -2,8 +2,8 @@
 
 use crate::peer::Peer;
 use crate::pump::{Turn, pump};
-use crate::upstream::Limits;
 use lb_proxy::attempts::{Attempts, Next};
+use lb_proxy::config::Limits;
 use lb_proxy::relay::Relay;
 use mio::event::Event;
 

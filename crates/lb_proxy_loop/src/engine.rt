@@ -5,9 +5,10 @@ use crate::heads::Client;
 use crate::peer::Peer;
 use crate::pump::Turn;
 use crate::scene::Scene;
+use crate::settings::Settings;
 use crate::stream::Stream;
 use crate::tokens::{Origin, backend_token, client_token, listener_token, named};
-use crate::upstream::{Happened, Upstream};
+use crate::upstream::{Counted, Happened, Upstream};
 use crate::web::Web;
 use lb_proxy::attempts::{AttemptEvent, Attempts, Next};
 use lb_proxy::mode::Mode;
@@ -46,6 +47,7 @@ macro_rules! scene {
             rt: &$engine.rt,
             alloc: $engine.alloc,
             proxy: &*$engine.proxy,
+            settings: &*$engine.settings,
             poll: &$engine.poll,
             now: $engine.now,
         }
@@ -58,6 +60,7 @@ pub struct Engine<R, U> {
     rt: R,
     alloc: Global,
     proxy: Arc<U>,
+    settings: Arc<Settings>,
     poll: Poll,
     listeners: Vec<TcpListener>,
     connections: Slab<Connection>,
@@ -76,11 +79,12 @@ pub struct Engine<R, U> {
 }
 
 impl<R: Log + Net + Wait + Clock + Copy + Drop, U: Upstream + Drop> Engine<R, U> {
-    /// Returns a loop over these listeners, one for each of the proxy's.
+    /// Returns a loop over these listeners, which are in the order of the settings.
     pub fn new(
         rt: R,
         alloc: Global,
         proxy: Arc<U>,
+        settings: Arc<Settings>,
         listeners: Vec<TcpListener>,
     ) -> io::Result<Engine<R, U>> {
         let poll = Poll::new(&rt)?;
@@ -88,6 +92,7 @@ impl<R: Log + Net + Wait + Clock + Copy + Drop, U: Upstream + Drop> Engine<R, U>
             rt,
             alloc,
             proxy,
+            settings,
             poll,
             listeners,
             connections: Slab::new(alloc),
@@ -119,7 +124,7 @@ impl<R: Log + Net + Wait + Clock + Copy + Drop, U: Upstream + Drop> Engine<R, U>
     pub fn run(&mut self) -> io::Result<()> {
         let rt = self.rt;
         let mut events = Events::with_capacity(self.alloc, EVENTS)?;
-        let mut left = self.proxy.limits().drain / 1_000_000;
+        let mut left = self.settings.limits.drain / 1_000_000;
         for _ in rt.forever() {
             let before = self.now;
             self.round(&mut events)?;
@@ -213,7 +218,7 @@ impl<R: Log + Net + Wait + Clock + Copy + Drop, U: Upstream + Drop> Engine<R, U>
                 return;
             }
             if !self.accept_one(number) {
-                self.proxy.release();
+                self.proxy.count(&self.rt, Counted::Freed);
                 return;
             }
         }
@@ -240,7 +245,7 @@ impl<R: Log + Net + Wait + Clock + Copy + Drop, U: Upstream + Drop> Engine<R, U>
     // Begins a connection in the mode of its listener. Returns whether there was memory for it.
     fn begin(&mut self, number: usize, stream: TcpStream, address: SocketAddr) -> bool {
         let _ = stream.set_nodelay(true);
-        match self.proxy.mode(number) {
+        match self.settings.mode(number) {
             Mode::Tcp => self.begin_relay(number, stream, address),
             Mode::Http => match client_of(self.alloc, address) {
                 Ok(known) => self.web.begin(&scene!(self), number, stream, known),
@@ -261,7 +266,7 @@ impl<R: Log + Net + Wait + Clock + Copy + Drop, U: Upstream + Drop> Engine<R, U>
         let Ok(key) = self.connections.insert(connection) else {
             return false;
         };
-        self.proxy.took();
+        self.proxy.count(&self.rt, Counted::Connection);
         if self.register_client(key) {
             self.advance(key);
         } else {
@@ -324,7 +329,8 @@ impl<R: Log + Net + Wait + Clock + Copy + Drop, U: Upstream + Drop> Engine<R, U>
     // Closes a connection for which no backend is left.
     fn give_up(&mut self, key: usize) {
         if let Some(connection) = self.connections.get_mut(key) {
-            self.proxy.gave_up(&self.rt, connection.listener);
+            let listener = connection.listener;
+            self.proxy.count(&self.rt, Counted::Unserved { listener });
         }
         self.remove(key);
     }
@@ -363,7 +369,7 @@ impl<R: Log + Net + Wait + Clock + Copy + Drop, U: Upstream + Drop> Engine<R, U>
     fn look(&mut self) {
         self.web.look(&scene!(self));
         let mut late = Vec::new(self.alloc);
-        let limits = self.proxy.limits();
+        let limits = self.settings.limits;
         for (key, connection) in self.connections.iter() {
             if connection.is_late(self.now, &limits) && late.push(key).is_err() {
                 return;
@@ -393,7 +399,7 @@ impl<R: Log + Net + Wait + Clock + Copy + Drop, U: Upstream + Drop> Engine<R, U>
         let Some(connection) = self.connections.try_remove(key) else {
             return;
         };
-        self.proxy.release();
+        self.proxy.count(&self.rt, Counted::Freed);
         count_end(&self.rt, self.alloc, &*self.proxy, &connection);
         let Connection { mut relay, .. } = connection;
         if self.spares.len() < SPARES {

@@ -8,7 +8,7 @@ use crate::reach::{drop_link, end_request, has_reached};
 use crate::scene::Scene;
 use crate::session::{Phase, Session};
 use crate::spares::Spares;
-use crate::upstream::Upstream;
+use crate::upstream::{Counted, Upstream};
 use lb_proxy_http::fault::Fault;
 use log::Log;
 use std::sync::Wait;
@@ -60,7 +60,7 @@ fn begin_request<R: Log + Wait, U: Upstream>(
         scene.alloc,
         session.up.inbox.bytes(),
         &session.known,
-        scene.proxy.key(session.listener),
+        scene.settings.key(session.listener),
         &mut session.up.head,
         &mut session.key,
     )?;
@@ -69,7 +69,7 @@ fn begin_request<R: Log + Wait, U: Upstream>(
     };
     session.up.take_head(request.length, request.framing);
     session.asked = request.asked;
-    scene.proxy.asked();
+    scene.proxy.count(scene.rt, Counted::Request);
     session.seek(scene.alloc, scene.now);
     Ok(true)
 }

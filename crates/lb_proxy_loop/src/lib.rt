@@ -14,6 +14,7 @@ pub mod pump;
 pub mod reach;
 pub mod scene;
 pub mod session;
+pub mod settings;
 pub mod spares;
 pub mod stream;
 pub mod tokens;

@@ -4,7 +4,7 @@ use crate::links::Links;
 use crate::pump::Turn;
 use crate::scene::Scene;
 use crate::session::{Phase, Session};
-use crate::upstream::{Happened, Upstream};
+use crate::upstream::{Counted, Happened, Upstream};
 use lb_proxy::attempts::{AttemptEvent, Attempts, Next};
 use lb_proxy_http::fault::Fault;
 use log::{Log, warn};
@@ -35,7 +35,8 @@ pub fn reach<R: Log + Net + Wait, U: Upstream>(
             Turn::Ready
         }
         Next::Close => {
-            scene.proxy.gave_up(scene.rt, session.listener);
+            let listener = session.listener;
+            scene.proxy.count(scene.rt, Counted::Unserved { listener });
             let keeps = session.can_go_on() && !scene.proxy.ends();
             session.refuse(Fault::Unavailable, keeps, scene.now);
             Turn::Ready

@@ -1,5 +1,6 @@
 //! What the steps of a connection are given.
 
+use crate::settings::Settings;
 use mio::Poll;
 use std::alloc::Global;
 
@@ -9,6 +10,7 @@ pub struct Scene<'a, R, U> {
     pub rt: &'a R,
     pub alloc: Global,
     pub proxy: &'a U,
+    pub settings: &'a Settings,
     pub poll: &'a Poll,
     /// Milliseconds of the clock.
     pub now: u64,

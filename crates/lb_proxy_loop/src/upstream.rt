@@ -1,8 +1,6 @@
 //! What a loop asks of the proxy that it works for.
 
 use lb_proxy::attempts::Attempts;
-use lb_proxy::key::Key;
-use lb_proxy::mode::Mode;
 use lb_select_base::backend::Backend;
 use log::Log;
 use std::alloc::Global;
@@ -23,17 +21,17 @@ pub enum Happened {
     Ended { sent: u64, received: u64 },
 }
 
-/// How long a loop waits, in nanoseconds.
+/// What a proxy counts of the connections of all clients.
 #[derive(Clone, Copy)]
-pub struct Limits {
-    /// For one attempt to reach a backend.
-    pub connect: u64,
-    /// For something to happen on a connection.
-    pub idle: u64,
-    /// For an answer to begin once its request is sent.
-    pub answer: u64,
-    /// For connections to end once no more are taken.
-    pub drain: u64,
+pub enum Counted {
+    /// A connection was taken.
+    Connection,
+    /// The room that was reserved for a connection is free again: it ended, or none was taken.
+    Freed,
+    /// A request came.
+    Request,
+    /// No backend was left for a connection of this listener, or in http mode for a request.
+    Unserved { listener: usize },
 }
 
 /// What a loop asks of its proxy. Listeners are named by their numbers.
@@ -58,33 +56,15 @@ pub trait Upstream {
         happened: Happened,
     );
 
-    /// Returns what a listener does with its connections.
-    fn mode(&self, listener: usize) -> Mode;
-
-    /// Returns what the selections of a listener in http mode take as their key.
-    fn key(&self, listener: usize) -> Key<'_>;
-
     /// Returns whether the backend is in the pool of a listener.
     fn has<W: Log + Wait>(&self, rt: &W, listener: usize, backend: &Backend) -> bool;
 
-    /// Takes note of a request.
-    fn asked(&self);
-
-    /// Takes note of a connection, or in http mode a request, for which no backend was left.
-    fn gave_up<W: Log>(&self, rt: &W, listener: usize);
-
-    /// Keeps room for one more connection. Returns whether there was room.
+    /// Reserves room for one more connection. Returns whether there was room.
     fn reserve(&self) -> bool;
 
-    /// Gives the room of a connection back.
-    fn release(&self);
-
-    /// Takes note of a connection that was taken.
-    fn took(&self);
+    /// Counts what happened to a connection or a request of a client.
+    fn count<W: Log>(&self, rt: &W, counted: Counted);
 
     /// Returns whether no connection is to be taken any more.
     fn ends(&self) -> bool;
-
-    /// Returns the limits of connections.
-    fn limits(&self) -> Limits;
 }

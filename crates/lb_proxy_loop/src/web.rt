@@ -11,7 +11,7 @@ use crate::session::{Phase, Session};
 use crate::spares::Spares;
 use crate::stream::Stream;
 use crate::tokens::session_token;
-use crate::upstream::Upstream;
+use crate::upstream::{Counted, Upstream};
 use lb_proxy_http::fault::Fault;
 use log::Log;
 use mio::event::Event;
@@ -69,7 +69,7 @@ impl Web {
         let Ok(key) = self.sessions.insert(session) else {
             return false;
         };
-        scene.proxy.took();
+        scene.proxy.count(scene.rt, Counted::Connection);
         if self.register(scene, key) {
             self.turn(scene, key);
         } else {
@@ -191,7 +191,7 @@ impl Web {
 
     /// Ends what took too long, and once the proxy ends what waits for a request.
     pub fn look<R: Log + Net + Wait, U: Upstream>(&mut self, scene: &Scene<'_, R, U>) {
-        let limits = scene.proxy.limits();
+        let limits = scene.settings.limits;
         let ends = scene.proxy.ends();
         self.links.look(scene, limits.idle / 1_000_000);
         let mut late = Vec::new(scene.alloc);
@@ -233,7 +233,7 @@ impl Web {
         let Some(mut session) = self.sessions.try_remove(key) else {
             return;
         };
-        scene.proxy.release();
+        scene.proxy.count(scene.rt, Counted::Freed);
         end_request(scene, &mut session);
         drop_link(&mut self.links, &mut session);
         session.up.reset(scene.alloc);

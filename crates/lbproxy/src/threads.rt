@@ -42,7 +42,8 @@ where
     C: HealthCheck + Drop + Send + Sync + 'static,
 {
     let listeners = copies(alloc, listeners)?;
-    let mut engine = Engine::new(rt, alloc, Arc::try_clone(proxy)?, listeners)?;
+    let settings = Arc::try_clone(&proxy.settings)?;
+    let mut engine = Engine::new(rt, alloc, Arc::try_clone(proxy)?, settings, listeners)?;
     let started = thread::spawn(&rt, move || {
         if let Err(error) = engine.run() {
             error!(rt; "a loop ended: {error}");
