@@ -20,7 +20,7 @@ use Rattle.lb_threads_core.specs.contracts.keyed.NoRuleKeyRule.TheImpl as no_rul
 use Rattle.lb_balancer_group.specs.contracts.group.LoadBalancerGroup as handle
 use Rattle.lb_balancer_group.proofs.Handles.{handle_send, handle_sync}
 use Rattle.lb_select_base.proofs.backend.Backend.TheSendSync as backend_crossing
-use Rattle.lb_proxy_loop.proofs.settings.Settings.TheSendSync as settings_crossing
+use Rattle.lb_proxy.proofs.event_loop.settings.Settings.TheSendSync as settings_crossing
 use Rattle.lbproxy.specs.contracts.source.PoolDiscovery as discovery
 use Rattle.lbproxy.proofs.source.PoolDiscovery.TheSendSync as discovery_crossing
 use Rattle.lbproxy.proofs.source.PoolBackends.TheSendSync as backends_crossing

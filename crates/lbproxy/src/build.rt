@@ -5,7 +5,7 @@ use crate::pool::{Common, Commons, Pool, Registry};
 use crate::proxy::{Counts, Listen, Proxy};
 use crate::source::PoolBackends;
 use lb_proxy::config::{CheckConfig, Config, Limits, ListenConfig, PoolConfig, Selection};
-use lb_proxy_loop::settings::{ListenSettings, Settings};
+use lb_proxy::event_loop::settings::{ListenSettings, Settings};
 use log::Log;
 use mio::net::TcpListener;
 use pingora_load_balancing::health_check::{HealthCheck, keyed_by_identity};

@@ -2,8 +2,8 @@
 
 use crate::pool::Pool;
 use lb_proxy::attempts::Attempts;
-use lb_proxy_loop::settings::Settings;
-use lb_proxy_loop::upstream::{Counted, Happened, Upstream};
+use lb_proxy::event_loop::settings::Settings;
+use lb_proxy::event_loop::upstream::{Counted, Happened, Upstream};
 use log::{Log, warn};
 use pingora_load_balancing::Backend;
 use pingora_load_balancing::health_check::HealthCheck;

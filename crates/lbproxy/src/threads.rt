@@ -3,7 +3,7 @@
 use crate::build::copies;
 use crate::proxy::Proxy;
 use crate::status::serve_page;
-use lb_proxy_loop::engine::Engine;
+use lb_proxy::event_loop::engine::Engine;
 use log::{Log, error};
 use pingora_load_balancing::HealthCheckService;
 use pingora_load_balancing::background::{RuntimeClock, ShutdownWatch};
