@@ -3,6 +3,14 @@ pub mod ConfigLemmas
 pub mod FaultLemmas
 pub mod FieldLemmas
 pub mod FlowLemmas
+pub mod HttpFieldLemmas
+pub mod HttpFrameLemmas
+pub mod HttpHeadLemmas
+pub mod HttpLengthLemmas
+pub mod HttpOptionLemmas
+pub mod HttpRefusalLemmas
+pub mod HttpRunLemmas
+pub mod HttpStepLemmas
 pub mod MetricsLemmas
 pub mod PoolFileLemmas
 pub mod PositionLemmas

@@ -1,6 +1,8 @@
 pub mod Attempts
 pub mod Config
 pub mod Faults
+pub mod Http
+pub mod Internal
 pub mod Key
 pub mod Metrics
 pub mod PoolFile

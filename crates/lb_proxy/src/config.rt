@@ -86,10 +86,15 @@ pub struct ListenConfig {
 #[derive(Clone, Copy)]
 pub struct Limits {
     pub max_connections: u64,
+    /// How many loops run; 0 is as many as processors.
     pub threads: u64,
+    /// For one attempt to reach a backend.
     pub connect: u64,
+    /// For something to happen on a connection.
     pub idle: u64,
+    /// For an answer to begin once its request is sent.
     pub answer: u64,
+    /// For connections to end once no more are taken.
     pub drain: u64,
 }
 

@@ -1,11 +1,13 @@
-//! What a proxy decides: what a pool's file spells, which attempt comes next, how bytes are relayed, by which key a connection is
-//! selected, what a configuration says, and the text of counts. Nothing here opens a socket or starts a thread; the program passes the
-//! streams in.
+//! A proxy of TCP and HTTP/1.1. It decides what a configuration says, what a pool's file spells, which attempt comes next, how bytes are
+//! relayed, by which key a connection is selected, and how counts are written. `http` reads and writes heads, and finds where bodies end;
+//! `event_loop` has the loops. No other module opens a socket, and none starts a thread.
 #![tactic(auto)]
 
 pub mod attempts;
 pub mod config;
 pub mod config_fault;
+pub mod event_loop;
+pub mod http;
 pub mod key;
 pub mod metrics;
 pub mod mode;

@@ -20,7 +20,7 @@ use Rattle.lb_threads_core.specs.contracts.keyed.NoRuleKeyRule.TheImpl as no_rul
 use Rattle.lb_balancer_group.specs.contracts.group.LoadBalancerGroup as handle
 use Rattle.lb_balancer_group.proofs.Handles.{handle_send, handle_sync}
 use Rattle.lb_select_base.proofs.backend.Backend.TheSendSync as backend_crossing
-use Rattle.lb_proxy.proofs.config.Limits.TheSendSync as limits_crossing
+use Rattle.lb_proxy.proofs.event_loop.settings.Settings.TheSendSync as settings_crossing
 use Rattle.lbproxy.specs.contracts.source.PoolDiscovery as discovery
 use Rattle.lbproxy.proofs.source.PoolDiscovery.TheSendSync as discovery_crossing
 use Rattle.lbproxy.proofs.source.PoolBackends.TheSendSync as backends_crossing
@@ -116,7 +116,7 @@ module _ (R C : RattleType) (sr : IsSend R) (yr : IsSync R) (sc : IsSend C) (yc 
     (
       search (sendable, crosses, listen_crossing.the_send) depth 20,
       (
-        search (sendable, crosses, limits_crossing.the_field_send) depth 20,
+        search (sendable, crosses, settings_crossing.the_send, settings_crossing.the_sync) depth 20,
         (search (sendable, crosses, counts_crossing.the_field_send) depth 20, (search (sendable, crosses) depth 20, tt)),
       ),
     ),
@@ -128,7 +128,7 @@ module _ (R C : RattleType) (sr : IsSend R) (yr : IsSync R) (sc : IsSend C) (yc 
     (
       search (sendable, crosses, listen_crossing.the_sync) depth 20,
       (
-        search (sendable, crosses, limits_crossing.the_field_sync) depth 20,
+        search (sendable, crosses, settings_crossing.the_send, settings_crossing.the_sync) depth 20,
         (search (sendable, crosses, counts_crossing.the_field_sync) depth 20, (search (sendable, crosses) depth 20, tt)),
       ),
     ),

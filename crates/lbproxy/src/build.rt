@@ -4,7 +4,8 @@ use crate::check::ProxyCheck;
 use crate::pool::{Common, Commons, Pool, Registry};
 use crate::proxy::{Counts, Listen, Proxy};
 use crate::source::PoolBackends;
-use lb_proxy::config::{CheckConfig, Config, ListenConfig, PoolConfig, Selection};
+use lb_proxy::config::{CheckConfig, Config, Limits, ListenConfig, PoolConfig, Selection};
+use lb_proxy::event_loop::settings::{ListenSettings, Settings};
 use log::Log;
 use mio::net::TcpListener;
 use pingora_load_balancing::health_check::{HealthCheck, keyed_by_identity};
@@ -68,20 +69,35 @@ fn kinds_of(
 
 // How many of the listeners are on the pool.
 fn count_on(listens: &[Listen], pool: usize) -> usize {
-    listens
-        .iter()
-        .filter(|listen| listen.config.pool == pool)
-        .count()
+    listens.iter().filter(|listen| listen.pool == pool).count()
 }
 
-// The listeners with their slots: those on one pool are numbered in order.
-fn slots_of(alloc: Global, listens: Vec<ListenConfig>) -> Result<Vec<Listen>, AllocError> {
+// The slots of the listeners: those on one pool are numbered in order.
+fn slots_of(alloc: Global, listens: &[ListenConfig]) -> Result<Vec<Listen>, AllocError> {
     let mut numbered: Vec<Listen> = Vec::new(alloc);
-    for config in listens {
-        let slot = count_on(numbered.as_slice(), config.pool);
-        numbered.push(Listen { config, slot })?;
+    for listen in listens {
+        let pool = listen.pool;
+        let slot = count_on(numbered.as_slice(), pool);
+        numbered.push(Listen { pool, slot })?;
     }
     Ok(numbered)
+}
+
+// What the loops go by.
+fn settings_of(
+    alloc: Global,
+    limits: Limits,
+    listens: Vec<ListenConfig>,
+) -> Result<Arc<Settings>, AllocError> {
+    let mut listed = Vec::new(alloc);
+    for ListenConfig { mode, key, .. } in listens {
+        listed.push(ListenSettings { mode, key })?;
+    }
+    let settings = Settings {
+        limits,
+        listens: listed,
+    };
+    Arc::new(alloc, settings)
 }
 
 /// Returns the registry of all pools with the configured check, one for each pool with a check of its own, and the gate of all.
@@ -154,9 +170,9 @@ pub fn build<R: Log + Wait + Copy + Drop, C: HealthCheck + Drop>(
         ..
     } = config;
     Ok(Proxy {
+        listens: slots_of(alloc, listens.as_slice())?,
         pools: pools_of(rt, alloc, pools, listens.as_slice(), commons)?,
-        listens: slots_of(alloc, listens)?,
-        limits,
+        settings: settings_of(alloc, limits, listens)?,
         counts: Counts {
             live: AtomicU64::new(0),
             total: AtomicU64::new(0),

@@ -2,7 +2,7 @@
 
 use crate::source::{PoolBackends, PoolDiscovery};
 use lb_proxy::attempts::Attempts;
-use lb_proxy_loop::upstream::Happened;
+use lb_proxy::event_loop::upstream::Happened;
 use log::{Log, info, warn};
 use pingora_load_balancing::background::{RuntimeClock, start_workers};
 use pingora_load_balancing::discovery::DiscoverySource;

@@ -2,22 +2,19 @@
 
 use crate::pool::Pool;
 use lb_proxy::attempts::Attempts;
-use lb_proxy::config;
-use lb_proxy::config::ListenConfig;
-use lb_proxy::key::Key;
-use lb_proxy::mode::Mode;
-use lb_proxy_loop::upstream::{Happened, Limits, Upstream};
+use lb_proxy::event_loop::settings::Settings;
+use lb_proxy::event_loop::upstream::{Counted, Happened, Upstream};
 use log::{Log, warn};
 use pingora_load_balancing::Backend;
 use pingora_load_balancing::health_check::HealthCheck;
 use std::alloc::Global;
-use std::sync::Wait;
 use std::sync::atomic::{AtomicU64, Ordering};
+use std::sync::{Arc, Wait};
 
-/// A listener, and its slot in the group of its pool.
-#[derive(Drop)]
+/// Where the selections of a listener go: to its pool, by number, and its slot in the group of that pool.
+#[derive(Clone, Copy)]
 pub struct Listen {
-    pub config: ListenConfig,
+    pub pool: usize,
     pub slot: usize,
 }
 
@@ -37,7 +34,7 @@ pub struct Counts {
 pub struct Proxy<R: Log + Wait + Drop, C: HealthCheck + Drop> {
     pub pools: Vec<Pool<R, C>>,
     pub listens: Vec<Listen>,
-    pub limits: config::Limits,
+    pub settings: Arc<Settings>,
     pub counts: Counts,
     /// 0 while it runs; else no connection is taken any more.
     pub ends: AtomicU64,
@@ -47,8 +44,16 @@ impl<R: Log + Wait + Copy + Drop, C: HealthCheck + Drop> Proxy<R, C> {
     // The pool of a listener, and its slot there.
     fn slot_of(&self, listener: usize) -> Option<(&Pool<R, C>, usize)> {
         let listen = self.listens.get(listener)?;
-        let pool = self.pools.get(listen.config.pool)?;
+        let pool = self.pools.get(listen.pool)?;
         Some((pool, listen.slot))
+    }
+
+    // Warns that the pool of a listener has no ready backend.
+    fn warn_unserved<W: Log>(&self, rt: &W, listener: usize) {
+        if let Some((pool, _)) = self.slot_of(listener) {
+            let name = pool.name.as_str();
+            warn!(rt; "pool {name}: no ready backend");
+        }
     }
 }
 
@@ -78,20 +83,6 @@ impl<R: Log + Wait + Copy + Drop, C: HealthCheck + Drop> Upstream for Proxy<R, C
         }
     }
 
-    fn mode(&self, listener: usize) -> Mode {
-        match self.listens.get(listener) {
-            Some(listen) => listen.config.mode,
-            None => Mode::Tcp,
-        }
-    }
-
-    fn key(&self, listener: usize) -> Key<'_> {
-        match self.listens.get(listener) {
-            Some(listen) => listen.config.key.as_key(),
-            None => Key::Source,
-        }
-    }
-
     fn has<W: Log + Wait>(&self, rt: &W, listener: usize, backend: &Backend) -> bool {
         match self.slot_of(listener) {
             Some((pool, _)) => pool.has(rt, backend),
@@ -99,45 +90,34 @@ impl<R: Log + Wait + Copy + Drop, C: HealthCheck + Drop> Upstream for Proxy<R, C
         }
     }
 
-    fn asked(&self) {
-        self.counts.requests.fetch_add(1, Ordering::SeqCst);
-    }
-
-    fn gave_up<W: Log>(&self, rt: &W, listener: usize) {
-        self.counts.unserved.fetch_add(1, Ordering::SeqCst);
-        if let Some((pool, _)) = self.slot_of(listener) {
-            let name = pool.name.as_str();
-            warn!(rt; "pool {name}: no ready backend");
-        }
-    }
-
     fn reserve(&self) -> bool {
-        let has_room = self.counts.live.fetch_add(1, Ordering::SeqCst)
-            < self.limits.max_connections;
+        let limit = self.settings.limits.max_connections;
+        let has_room = self.counts.live.fetch_add(1, Ordering::SeqCst) < limit;
         if !has_room {
-            self.release();
+            self.counts.live.fetch_sub(1, Ordering::SeqCst);
         }
         has_room
     }
 
-    fn release(&self) {
-        self.counts.live.fetch_sub(1, Ordering::SeqCst);
-    }
-
-    fn took(&self) {
-        self.counts.total.fetch_add(1, Ordering::SeqCst);
+    fn count<W: Log>(&self, rt: &W, counted: Counted) {
+        match counted {
+            Counted::Connection => {
+                self.counts.total.fetch_add(1, Ordering::SeqCst);
+            }
+            Counted::Freed => {
+                self.counts.live.fetch_sub(1, Ordering::SeqCst);
+            }
+            Counted::Request => {
+                self.counts.requests.fetch_add(1, Ordering::SeqCst);
+            }
+            Counted::Unserved { listener } => {
+                self.counts.unserved.fetch_add(1, Ordering::SeqCst);
+                self.warn_unserved(rt, listener);
+            }
+        }
     }
 
     fn ends(&self) -> bool {
         self.ends.load(Ordering::SeqCst) != 0
-    }
-
-    fn limits(&self) -> Limits {
-        Limits {
-            connect: self.limits.connect,
-            idle: self.limits.idle,
-            answer: self.limits.answer,
-            drain: self.limits.drain,
-        }
     }
 }

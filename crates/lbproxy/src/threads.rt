@@ -3,7 +3,7 @@
 use crate::build::copies;
 use crate::proxy::Proxy;
 use crate::status::serve_page;
-use lb_proxy_loop::engine::Engine;
+use lb_proxy::event_loop::engine::Engine;
 use log::{Log, error};
 use pingora_load_balancing::HealthCheckService;
 use pingora_load_balancing::background::{RuntimeClock, ShutdownWatch};
@@ -42,7 +42,8 @@ where
     C: HealthCheck + Drop + Send + Sync + 'static,
 {
     let listeners = copies(alloc, listeners)?;
-    let mut engine = Engine::new(rt, alloc, Arc::try_clone(proxy)?, listeners)?;
+    let settings = Arc::try_clone(&proxy.settings)?;
+    let mut engine = Engine::new(rt, alloc, Arc::try_clone(proxy)?, settings, listeners)?;
     let started = thread::spawn(&rt, move || {
         if let Err(error) = engine.run() {
             error!(rt; "a loop ended: {error}");

@@ -5,8 +5,8 @@ use denote.Param.{param, copied}
 use denote.Param.Send.{sendable}
 use Rattle.std.proofs.Crossing.{crosses}
 use Rattle.lb_balancer_group.proofs.Crossings.{sent}
-use Rattle.lb_proxy_loop.specs.contracts.engine.Engine as engine
-use Rattle.lb_proxy_loop.proofs.engine.Engine.TheSendSync as engine_crossing
+use Rattle.lb_proxy.specs.contracts.event_loop.engine.Engine as engine
+use Rattle.lb_proxy.proofs.event_loop.engine.Engine.TheSendSync as engine_crossing
 use Rattle.lbproxy.specs.contracts.proxy.Proxy as proxy
 use Rattle.lbproxy.proofs.Crossings.{proxy_send, proxy_sync}
 use Rattle.lbproxy.proofs.threads.start_loop.Goals as goal

@@ -1,0 +1,14 @@
+use Rattle.std.proofs.Common.{◌≡◌, ◌≤◌, ◌<◌, ◌^◌, true, length, take}
+use Rattle.std.specs.List.{list_all}
+use Rattle.std.specs.Char.{is_ascii_digit}
+use Rattle.std.specs.Str.Parse.{digits_value}
+use Rattle.lb_proxy.proofs.http.framing.length_of.Given as goal
+
+abbrev pub invariant-loop-digit : goal.invariant-loop-digit
+invariant-loop-digit l = record {
+  short : length l.digits ≤ 19;
+  some : 0 < length l.digits;
+  digits : list_all is_ascii_digit (take l.digit-index l.digits) ≡ true;
+  value : l.value ≡ digits_value 10 (take l.digit-index l.digits);
+  small : l.value < 10 ^ l.digit-index;
+}

@@ -1,0 +1,6 @@
+use Rattle.std.proofs.Common.{◌≡◌, ◌++◌, take}
+use Rattle.lb_proxy.specs.Http.Write.{fields_text, is_end_to_end}
+use Rattle.lb_proxy.proofs.http.write.push_response_fields.Given as goal
+
+abbrev pub invariant-loop-field : goal.invariant-loop-field
+invariant-loop-field l = l.out.items ≡ l.fn.out.items ++ fields_text (is_end_to_end l.options) (take l.field-index l.fields)

@@ -1,0 +1,61 @@
+//! A connection of a client: its ends, its attempts to reach a backend, and the bytes on their way.
+
+use crate::attempts::{Attempts, Next};
+use crate::config::Limits;
+use crate::event_loop::peer::Peer;
+use crate::event_loop::pump::{Turn, pump};
+use crate::relay::Relay;
+use mio::event::Event;
+
+/// A connection of a client.
+#[derive(Drop)]
+pub struct Connection {
+    /// The number of the listener that took it.
+    pub listener: usize,
+    /// What a selection by the client's address takes as its key.
+    pub source: Vec<u8>,
+    pub client: Peer,
+    /// The end of the backend that is tried or was reached.
+    pub backend: Option<Peer>,
+    pub attempts: Attempts,
+    pub relay: Relay,
+    /// Whether it waits for a turn without an event.
+    pub queued: bool,
+    /// When something last happened, in milliseconds.
+    pub active: u64,
+}
+
+impl Connection {
+    /// Notes what an event reports of the backend's end.
+    pub fn note_backend(&mut self, event: &Event) {
+        if let Some(backend) = &mut self.backend {
+            backend.note(event);
+        }
+    }
+
+    /// Moves bytes both ways, once a backend is reached.
+    pub fn turn(&mut self) -> Turn {
+        match (self.attempts.next(), &mut self.backend) {
+            (Next::Relay, Some(backend)) => pump(&mut self.relay, &mut self.client, backend),
+            _ => Turn::Waits,
+        }
+    }
+
+    /// Returns whether it waits for a backend to take the connection.
+    pub fn is_connecting(&self) -> bool {
+        match self.attempts.next() {
+            Next::Connect => true,
+            Next::Select | Next::Relay | Next::Close => false,
+        }
+    }
+
+    /// Returns whether nothing has happened for longer than the limits allow.
+    pub fn is_late(&self, now: u64, limits: &Limits) -> bool {
+        let limit = if self.is_connecting() {
+            limits.connect
+        } else {
+            limits.idle
+        };
+        now.saturating_sub(self.active) > limit / 1_000_000
+    }
+}

@@ -1,6 +1,0 @@
-use Rattle.std.proofs.Common.{◌≡◌, ℕ, ◌-◌, ◌<◌, get_or}
-use Rattle.lb_proxy_http.proofs.request.has_bare_feed.Given as goal
-
-abbrev pub invariant-loop-index : goal.invariant-loop-index
-invariant-loop-index l =
-    (k : ℕ) → k < l.index → get_or l.bytes k 0 ≡ 10 → (0 < k) × (get_or l.bytes (k - 1) 0 ≡ 13)

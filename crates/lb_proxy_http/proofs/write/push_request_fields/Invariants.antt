@@ -1,6 +1,0 @@
-use Rattle.std.proofs.Common.{◌≡◌, ◌++◌, take}
-use Rattle.lb_proxy_http.specs.Write.{fields_text, goes_on}
-use Rattle.lb_proxy_http.proofs.write.push_request_fields.Given as goal
-
-abbrev pub invariant-loop-field : goal.invariant-loop-field
-invariant-loop-field l = l.out.items ≡ l.fn.out.items ++ fields_text (goes_on l.options) (take l.field-index l.fields)
