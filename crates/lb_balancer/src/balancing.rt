@@ -474,7 +474,8 @@ impl<
         rt: &W,
         alloc: Global,
     ) -> Result<Arc<BTreeSet<Backend>>, Refusal>
-        ensures members { IfOk result (λ set. (s : ShownValue S.Config) × IsShownBy R.gives self.now s × ((arc_value set).keys ≡ s.members)) }
+        ensures members { IfOk result (λ set. (s : ShownValue S.Config) × IsShownBy R.gives self.now s
+            × ((arc_value set).keys ≡ s.members)) }
         ensures refused { IfErr result (λ e. e ≡ Refusal.OutOfMemory) }
     {
         self.shown(rt, alloc)?.get_backend()

@@ -89,6 +89,7 @@ impl<
     fn look<W: Wait>(&mut self, rt: &W, alloc: Global) -> Result<(), Refusal>
         ensures same { self.new.balancing ≡ self.old.balancing }
         ensures later { self.old.seen.generation ≤ self.new.seen.generation }
+        ensures shown { IsShownBy R.gives self.old.balancing self.new.seen }
         ensures refused { IfErr result (λ e. e ≡ Refusal.OutOfMemory) }
     {
         if self.seen.version() == self.balancing.version() {

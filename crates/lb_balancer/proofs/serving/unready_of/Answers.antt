@@ -1,5 +1,5 @@
 -- Each member is looked at in turn, and put in where it isn't ready.
-use Rattle.std.proofs.Common.{◌≡◌, ◌∙◌, rules, false, true, List, [], ◌∷◌, ap, subst, sym}
+use Rattle.std.proofs.Common.{◌≡◌, rules, false, true, List, [], ◌∷◌, subst, sym}
 use Rattle.lb_select_base.specs.Backends.{Member}
 use Rattle.lb_health_view.specs.ViewEvents.{membership_after}
 use Rattle.lb_balancer_core.specs.Balancer.{IsJudged}

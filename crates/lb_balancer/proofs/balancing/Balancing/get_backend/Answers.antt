@@ -1,5 +1,5 @@
 -- The members are those of what was shown.
-use Rattle.std.proofs.Common.{◌≡◌, Result, Ok, Err, IfOk, rules}
+use Rattle.std.proofs.Common.{Result, Ok, Err, IfOk, rules}
 use Rattle.lb_balancer.proofs.balancing.Balancing.get_backend.Goals as goal
 
 if-ok : {A E : Type 0} {P Q : A → Type 0} (r : Result A E) → ((a : A) → P a → Q a) → IfOk r P → IfOk r Q

@@ -1,5 +1,5 @@
 -- Settings leave the registry as it was, and what is served took them.
-use Rattle.std.proofs.Common.{◌≡◌, ◌∙◌, sym}
+use Rattle.std.proofs.Common.{◌∙◌, sym}
 use Rattle.lb_health_view.specs.RegistrySide.{settings_of}
 use Rattle.lb_threads_core.proofs.Histories.{later, stays}
 use Rattle.lb_balancer.proofs.Served.{known, of-registry, updated}

@@ -1,5 +1,5 @@
 -- What is served got a flag more.
-use Rattle.std.proofs.Common.{◌≡◌, ◌∙◌, sym}
+use Rattle.std.proofs.Common.{◌∙◌, sym}
 use Rattle.lb_balancer.proofs.Served.{flagged, known, of-registry}
 use Rattle.lb_balancer.proofs.balancing.Balancing.set_enable.Goals as goal
 

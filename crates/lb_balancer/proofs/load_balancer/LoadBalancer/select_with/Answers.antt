@@ -14,5 +14,6 @@ returns-clause-answers g c =
     let walks = g.S.BackendSelection.walks in
     let Found : Type 0 = (x : Shown) × IsShownBy g.R.KeyRule.gives c.args.self.now.shared x
     × SelectsFrom accepts c.args.max_iterations walks c.args.key.now x c.select_with-answer.result in
-    let shown = subst (λ (x : Shown). IsShownBy g.R.KeyRule.gives c.args.self.now.shared x) (sym c.deref-shown.ensures) c.in_ok-served.ensures.shown in
+    let gives = g.R.KeyRule.gives in
+    let shown = subst (λ (x : Shown). IsShownBy gives c.args.self.now.shared x) (sym c.deref-shown.ensures) c.in_ok-served.ensures.shown in
     if-answered c.select_with-answer.result Found (c.deref-shown.result.now, shown, c.select_with-answer.ensures.answers)

@@ -3,6 +3,7 @@ use Rattle.std.proofs.Common.{◌≡◌, ◌∙◌, [], length, Err, ap, arith, 
 use Rattle.std.specs.Prelude.{if◌then◌else◌}
 use Rattle.lb_select_base.specs.Memberships.{same_members}
 use Rattle.lb_health_core.specs.Keys.{by_identity}
+use Rattle.lb_health_core.specs.declared.keys.Rule.{Rule}
 use Rattle.lb_health_view.specs.RegistrySide.{view_updated}
 use Rattle.lb_balancer.specs.Texts.{one_view}
 use Rattle.lb_balancer.proofs.OfTexts.{build-refused, reads-around, view-refused}
