@@ -1,10 +1,9 @@
 -- A selection in what is shown, and which members are found not ready.
-use Rattle.std.proofs.Common.{◌≡◌, inl, inr, ◌∷◌, ℕ, Bool, true, false, not, List, [], length, take, Option, Some, None, Result, Ok, Err}
-use Rattle.std.proofs.Common.{refl, sym, subst, arith}
+use Rattle.std.proofs.Common.{◌≡◌, ◌∷◌, ℕ, Bool, true, false, List, [], take, Option, Some, None, Result, Ok, Err}
+use Rattle.std.proofs.Common.{sym, subst}
 use Rattle.std.specs.Borrow.{Bor}
-use Rattle.std.specs.Fn.{Shared, Mut, FnReturns, FnReturnsAt, CalledAt}
-use Rattle.std.specs.List.{items_where_true, AllByRecursion as Each}
-use Rattle.std.specs.List.Retain.{IsFiltered, ReturnsInTurn}
+use Rattle.std.specs.Fn.{Shared, FnReturns, FnReturnsAt}
+use Rattle.std.specs.List.{AllByRecursion as Each}
 use Rattle.lb_select_base.specs.Backends.{Member, same_member}
 use Rattle.lb_select_base.specs.Draws.{Draw}
 use Rattle.lb_select_base.specs.Selections.{IsAnswer, Selects}
@@ -12,7 +11,7 @@ use Rattle.lb_select_base.specs.Unique.{distinct}
 use Rattle.lb_select_base.specs.declared.refusal.Refusal.{Refusal}
 use Rattle.lb_select_base.proofs.SelectionsSeen.{selects-more}
 use Rattle.lb_rebuild_core.specs.GroupCalls.{AcceptsBy}
-use Rattle.lb_balancer.specs.Shown.{SelectsOf, AreUnready}
+use Rattle.lb_balancer.specs.Shown.{SelectsOf}
 
 -- of the words that were drawn it is forgotten where they came from
 forgot : {S B : Type 0} (same : B → B → Bool) (accepts : B → Bool → Type 0) (limit : ℕ) (gives : S → Draw → S → Type 0)
