@@ -65,7 +65,7 @@ where
 }
 
 // How often those that were started selected, once each has ended.
-pub(crate) fn joined<W: Wait>(rt: &W, handles: Vec<Option<JoinHandle<u64>>>) -> u64 {
+pub(crate) fn joined<W: Threads + Wait>(rt: &W, handles: Vec<Option<JoinHandle<u64>>>) -> u64 {
     let mut count = 0u64;
     for handle in handles {
         if let Some(handle) = handle {
