@@ -97,7 +97,7 @@ fn settings_of(
         limits,
         listens: listed,
     };
-    Arc::new(alloc, settings)
+    Ok(Arc::new(alloc, settings)?)
 }
 
 /// Returns the registry of all pools with the configured check, one for each pool with a check of its own, and the gate of all.
