@@ -9,25 +9,15 @@ use Rattle.lb_select_base.specs.Draws.{Draw}
 use Rattle.lb_select_base.specs.Selections.{IsAnswer, Selects}
 use Rattle.lb_select_base.specs.Unique.{distinct}
 use Rattle.lb_select_base.specs.declared.refusal.Refusal.{Refusal}
-use Rattle.lb_select_base.proofs.SelectionsSeen.{selects-more}
 use Rattle.lb_rebuild_core.specs.GroupCalls.{AcceptsBy}
 use Rattle.lb_balancer.specs.Shown.{SelectsOf}
 
 -- of the words that were drawn it is forgotten where they came from
-forgot : {S B : Type 0} (same : B → B → Bool) (accepts : B → Bool → Type 0) (limit : ℕ) (gives : S → Draw → S → Type 0)
+pub forgot : {S B : Type 0} (same : B → B → Bool) (accepts : B → Bool → Type 0) (limit : ℕ) (gives : S → Draw → S → Type 0)
     (walks : List Draw → List B → Bool → Type 0) (s t : S) (r : Result (Option B) Refusal)
     → Selects same accepts limit gives walks s r t → SelectsOf same accepts limit walks r
 forgot same accepts limit gives walks s t (Ok r) (cs, ended, walked, answer) = (walked.draws, cs, ended, walked.walked, answer)
 forgot same accepts limit gives walks s t (Err e) refused = refused.0
-
--- what was asked is described by what follows from it
-pub asked-of : {S F : Type 0} {g : Shared F (Bor Member × Unit {0}) Bool} {f : F} (gives : S → Draw → S → Type 0)
-    (walks : List Draw → List Member → Bool → Type 0) (Q : Member → Bool → Type 0) (limit : ℕ) (s t : S)
-    (r : Result (Option Member) Refusal)
-    → Selects same_member (λ b a. FnReturnsAt g f b a) limit gives walks s r t
-    → ((b : Member) (a : Bool) → FnReturnsAt g f b a → Q b a) → SelectsOf same_member Q limit walks r
-asked-of {g = g} {f = f} gives walks Q limit s t r is more =
-    forgot same_member Q limit gives walks s t r (selects-more same_member (λ b a. FnReturnsAt g f b a) Q more limit gives walks s t r is)
 
 each_more : {A : Type 0} (P Q : A → Type 0) → ((x : A) → P x → Q x) → (xs : List A) → Each P xs → Each Q xs
 each_more P Q more [] all = tt
@@ -51,6 +41,13 @@ module _ {B : Type 0} (same : B → B → Bool) (P Q : B → Bool → Type 0) (m
       → SelectsOf same P limit walks r → SelectsOf same Q limit walks r
   of-more walks (Ok r) (draws, cs, ended, walked, answer) = (draws, cs, ended, walked, answer_more cs ended r answer)
   of-more walks (Err e) refused = refused
+
+-- what was asked is described by what follows from it
+pub asked-more : {F : Type 0} {g : Shared F (Bor Member × Unit {0}) Bool} {f : F} (Q : Member → Bool → Type 0) (limit : ℕ)
+    (walks : List Draw → List Member → Bool → Type 0) (r : Result (Option Member) Refusal)
+    → SelectsOf same_member (λ b a. FnReturnsAt g f b a) limit walks r → ((b : Member) (a : Bool) → FnReturnsAt g f b a → Q b a)
+    → SelectsOf same_member Q limit walks r
+asked-more {g = g} {f = f} Q limit walks r is more = of-more same_member (λ b a. FnReturnsAt g f b a) Q more limit walks r is
 
 -- where what was asked answers by what it is passed, what it accepts is what is right
 pub of-told : {F : Type 0} {g : Shared F (Bor Member × (Bool × Unit {0})) Bool} {f : F} (right : Member → Bool → Type 0) (limit : ℕ)

@@ -51,11 +51,17 @@ module _ {D C R : Type 0} (b : BalancerValue D C R) where
   UnderServing Call = (s : ServingValue C) × ((t : ServingValue C) × (IsServedBy s × (IsServedBy t × Call s t)))
 
 module _ {R : Type 0} (gives : R → Member → Member → Type 0) {D C : Type 0} (b : BalancerValue D C R) where
-  -- whether a backend was ready in the newest membership, at some state of what the balancer serves and of its registry
-  abbrev pub JudgedBy : Member → Bool → Type 0
-  JudgedBy m ready =
+  -- whether a backend was ready in the membership of a generation, at some state of what the balancer serves, which was this generation, and
+  -- of its registry
+  abbrev pub JudgedIn : ℕ → Member → Bool → Type 0
+  JudgedIn n m ready =
       (s : ServingValue C) × (IsServedBy b s
-      × ((cells : RegistryValue R) × (IsRegistryOf gives b.registry cells × IsJudged gives s.view cells m ready)))
+      × (((views : List ViewEvent) → IsViewAfter views s.view → n ≡ generation_after views)
+      × ((cells : RegistryValue R) × (IsRegistryOf gives b.registry cells × IsJudged gives s.view cells m ready))))
+
+  -- the same of the newest membership, whichever that was
+  abbrev pub JudgedBy : Member → Bool → Type 0
+  JudgedBy m ready = (n : ℕ) × JudgedIn n m ready
 
   -- what the balancer may show: members that were discovered, and a selector that is built with its configuration; and at some state of
   -- what it served and of its registry, these were the newest members, and those of them that weren't ready

@@ -1,4 +1,6 @@
 pub mod History
+pub mod JudgedSame
+pub mod Kept
 pub mod Selections
 pub mod SharedUpdates
 pub mod Shown

@@ -2,7 +2,7 @@
 //! taken in the order update, served, registry, shown; the last is held for a copy of a pointer. The lock of the loads is held for one
 //! load, while no other but that of updates is. A selection takes the first four only where its lane doesn't have what is served (`kept`),
 //! and that of the loads only for a load without a word.
-ghost use Rattle.std.specs.Prelude.{◌≡◌, ◌⊎◌, ◌∷◌, [], ℕ, List, IfOk, IfErr, OnOk, OnErr, Ok, Err};
+ghost use Rattle.std.specs.Prelude.{◌≡◌, ◌⊎◌, ◌∷◌, [], ℕ, List, IfOk, IfErr, IfSome, OnOk, OnErr, Ok, Err};
 ghost use Rattle.std.specs.Prelude.{All, Some, None, unwrap_or, false, MatchOption};
 ghost use Rattle.std.specs.Arc.{arc_value};
 ghost use Rattle.lb_select_base.specs.Backends.{Member, same_member};
@@ -14,12 +14,15 @@ ghost use Rattle.lb_health_view.specs.Views.{IsViewRefusal};
 ghost use Rattle.lb_health_core.specs.Registry.{IsGrowthRefusal};
 ghost use Rattle.lb_balancer_core.specs.Timings.{Reads};
 ghost use Rattle.lb_threads_core.specs.Registry.{IsRegistryOf};
-ghost use Rattle.lb_balancer.specs.History.{IsServedBy, IsServedGeneration, IsShownBy, JudgedBy, MayGive};
+ghost use Rattle.lb_balancer.specs.History.{IsServedBy, IsServedGeneration, IsShownBy, MayGive};
 ghost use Rattle.lb_balancer.specs.History.{SetsFlag, TakesIn, UnderServing};
+ghost use Rattle.lb_balancer.specs.Kept.{IsKept};
 ghost use Rattle.lb_balancer.specs.Shown.{ShownValue};
 ghost use Rattle.lb_balancer.specs.SharedUpdates.{IsBuildRefusal, IsSharedRefusal, IsSharedUpdated, ReadsUpdate};
 
-use crate::origin::{KeptShown, OfGeneration, OfServing, OfShown, Origin};
+use crate::kept::KeptShown;
+use crate::origin::{OfGeneration, OfServing, OfShown, Origin};
+use crate::readiness::Readiness;
 use crate::serving::{BuiltSelector, Serving, built_of};
 use crate::shown::{Shown, Version};
 use lb_balancer_core::timings::UpdateTimings;
@@ -53,7 +56,11 @@ use std::thread::Threads;
 
 type ServingLock<S, D, R, C> = KeyedLock<Serving<S>, Snapshot<Origin<S, D, R, C>>, OfServing>;
 
-type ShownLock<S, D, R, C> = KeyedLock<Arc<Shown<S>>, Snapshot<Origin<S, D, R, C>>, OfShown>;
+type ShownLock<S, D, R, C> = KeyedLock<
+    KeptShown<S, D, R, C>,
+    Snapshot<Origin<S, D, R, C>>,
+    OfShown,
+>;
 
 type GenerationNumber<S, D, R, C> = KeyedNumbers<Snapshot<Origin<S, D, R, C>>, OfGeneration>;
 
@@ -78,7 +85,7 @@ pub struct Balancing<S: BackendSelection, D, R: KeyRule + Drop, C> {
     pub(crate) origin: Origin<S, D, R, C>,
     view: ViewOwner,
     updates: Mutex<()>,
-    serving: ServingLock<S, D, R, C>,
+    pub(crate) serving: ServingLock<S, D, R, C>,
     shown: ShownLock<S, D, R, C>,
     // Noted while what is served is locked.
     generation: GenerationNumber<S, D, R, C>,
@@ -88,7 +95,7 @@ pub struct Balancing<S: BackendSelection, D, R: KeyRule + Drop, C> {
     timing: Mutex<Option<UpdateTimings>>,
     loads: Arc<SharedLoads>,
     // Counts what may have changed what is ready, but for the registry's own changes.
-    changes: AtomicU64,
+    pub(crate) changes: AtomicU64,
     seeds: AtomicU64,
 }
 
@@ -247,6 +254,7 @@ impl<
         let end = clock.now();
         let timing = UpdateTimings::between(start, end, build_duration);
         *self.timing.lock(rt) = Some(timing);
+        self.judge_all(rt);
         self.spread(rt);
         Ok(())
     }
@@ -272,7 +280,8 @@ impl<
         let before = clock.now();
         let built = self.build(rt, alloc, &members)?;
         let after = clock.now();
-        self.renew(rt, alloc, members, settings, built)?;
+        let ready = self.words_for(rt, alloc, &members);
+        self.renew(rt, alloc, members, settings, built, ready)?;
         Ok(after.saturating_sub(before))
     }
 
@@ -298,10 +307,9 @@ impl<
         let registries = self.origin.registry();
         let mut cells = take_registry(registries, rt);
         held.value.keep(alloc, &mut cells.value, members, settings);
-        let gone = self.exchange(rt, alloc, &held.value, &cells.value);
         put_registry(registries, cells);
         self.serving.put(held);
-        drop(gone);
+        self.changes.fetch_add(1, SeqCst);
         None
     }
 
@@ -335,6 +343,21 @@ impl<
         }
     }
 
+    // Words for the members of the next generation; none where memory is refused. The caller has the lock of updates, so that it is the
+    // generation after the newest one.
+    fn words_for<W: Wait>(
+        &self,
+        rt: &W,
+        alloc: Global,
+        members: &BTreeSet<Backend>,
+    ) -> Option<Arc<Readiness<S, D, R, C>>>
+        ensures { IfSome result (λ r. (arc_value r).balancer ≡ self.now) }
+    {
+        let next = self.generation(rt).checked_add(1)?;
+        let ready = Readiness::new(alloc, &self.origin, next, members).ok()?;
+        Arc::new(alloc, ready).ok()
+    }
+
     // Serves the selector of another membership from now on. What isn't served then is dropped outside the locks.
     fn renew<W: Wait>(
         &self,
@@ -343,10 +366,12 @@ impl<
         members: BTreeSet<Backend>,
         settings: Settings,
         built: BuiltSelector<S>,
+        ready: Option<Arc<Readiness<S, D, R, C>>>,
     ) -> Result<(), Refusal>
         requires members { S.members (arc_value built.selector) ≡ members.keys }
         requires config { S.built_with (arc_value built.selector) ≡ self.now.config }
         requires discovered { MayGive self.now.discovery members.keys (settings_of settings.entries) }
+        requires ready { IfSome ready (λ r. (arc_value r).balancer ≡ self.now) }
         ensures taken { OnOk result (UnderServing self.now (TakesIn members.keys (settings_of settings.entries))) }
         ensures refused { OnErr result (IsViewRefusal result) }
     {
@@ -359,7 +384,7 @@ impl<
             .value
             .renew(alloc, &mut cells.value, members, settings, built);
         let unshown = match answer {
-            Ok(()) => self.exchange(rt, alloc, &held.value, &cells.value),
+            Ok(()) => self.exchange(rt, alloc, &held.value, &cells.value, ready),
             Err(_) => None,
         };
         put_registry(registries, cells);
@@ -368,24 +393,26 @@ impl<
         answer
     }
 
-    // Shows what is served now, then counts the change, and then notes the generation, so that a selection after its reading is of no
-    // earlier one. Returns what was shown before. Where memory is refused, the next selection shows it.
+    // Shows what is served now, with these words, then counts the change, and then notes the generation, so that a selection after its
+    // reading is of no earlier one. Returns what was shown before. Where memory is refused, the next selection shows it.
     fn exchange<W: Wait>(
         &self,
         rt: &W,
         alloc: Global,
         serving: &Serving<S>,
         registry: &Registry<R>,
-    ) -> Option<Arc<Shown<S>>>
+        ready: Option<Arc<Readiness<S, D, R, C>>>,
+    ) -> Option<KeptShown<S, D, R, C>>
         requires served { IsServedBy self.now serving.now }
         requires registry { IsRegistryOf R.gives self.now.registry registry.now }
+        requires ready { IfSome ready (λ r. (arc_value r).balancer ≡ self.now) }
     {
         let version = Version {
             balancer: self.changes.load(SeqCst).wrapping_add(1),
             registry: self.origin.registry().changes(),
         };
         let gone = match shown_of(alloc, serving, registry, &self.loads, version, &self.origin) {
-            Ok(shown) => Some(self.swap(rt, shown)),
+            Ok(shown) => Some(self.swap(rt, KeptShown::new(shown, ready))),
             Err(_) => None,
         };
         self.changes.fetch_add(1, SeqCst);
@@ -402,14 +429,20 @@ impl<
     }
 
     // Shows this from now on. Returns what was shown before.
-    fn swap<W: Wait>(&self, rt: &W, shown: Arc<Shown<S>>) -> Arc<Shown<S>>
-        requires { IsShownBy R.gives self.now (arc_value shown) }
+    fn swap<W: Wait>(&self, rt: &W, kept: KeptShown<S, D, R, C>) -> KeptShown<S, D, R, C>
+        requires { IsKept R.gives self.now kept.shown kept.ready }
     {
         let _key = &self.origin;
         let mut held = self.shown.take(rt);
-        let gone = mem::replace(&mut held.value, shown);
+        let gone = mem::replace(&mut held.value, kept);
         self.shown.put(held);
         gone
+    }
+
+    // Whether this generation is served, by one load.
+    #[inline]
+    pub(crate) fn is_served(&self, generation: u64) -> bool {
+        self.generation.get(0) == Some(generation)
     }
 
     // How often balancer and registry have changed.
@@ -428,17 +461,41 @@ impl<
         ensures refused { IfErr result (λ e. e ≡ Refusal.OutOfMemory) }
     {
         let latest = self.latest(rt)?;
-        if latest.version() == self.version() {
+        if (*latest.shown).version() == self.version() {
+            return Ok(latest.shown);
+        }
+        let kept = self.show_now(rt, alloc)?;
+        Ok(kept.shown)
+    }
+
+    // What was shown of the generation that is served, with the words of it.
+    pub(crate) fn current<W: Wait>(
+        &self,
+        rt: &W,
+        alloc: Global,
+    ) -> Result<KeptShown<S, D, R, C>, Refusal>
+        ensures kept { IfOk result (λ k. IsKept R.gives self.now k.shown k.ready) }
+        ensures refused { IfErr result (λ e. e ≡ Refusal.OutOfMemory) }
+    {
+        let latest = self.latest(rt)?;
+        if latest.generation() == self.generation(rt) {
             return Ok(latest);
         }
-        drop(latest);
+        self.show_now(rt, alloc)
+    }
+
+    // Shows what is served, as it is now.
+    fn show_now<W: Wait>(&self, rt: &W, alloc: Global) -> Result<KeptShown<S, D, R, C>, Refusal>
+        ensures kept { IfOk result (λ k. IsKept R.gives self.now k.shown k.ready) }
+        ensures refused { IfErr result (λ e. e ≡ Refusal.OutOfMemory) }
+    {
         let _key = &self.origin;
         let held = self.serving.take(rt);
         let answer = self.show_again(rt, alloc, &held.value);
         self.serving.put(held);
-        let (shown, gone) = answer?;
+        let (kept, gone) = answer?;
         drop(gone);
-        Ok(shown)
+        Ok(kept)
     }
 
     /// Returns the newest generation; 0 before the first membership.
@@ -478,39 +535,22 @@ impl<
             × ((arc_value set).keys ≡ s.members)) }
         ensures refused { IfErr result (λ e. e ≡ Refusal.OutOfMemory) }
     {
-        self.shown(rt, alloc)?.get_backend()
-    }
-
-    /// Returns whether a backend is ready in the newest membership, without taking memory.
-    pub fn ready<W: Wait>(&self, rt: &W, backend: &Backend) -> bool
-        ensures { JudgedBy R.gives self.now backend.now result }
-    {
-        let _key = &self.origin;
-        let registries = self.origin.registry();
-        let held = self.serving.take(rt);
-        let cells = take_registry(registries, rt);
-        let ready = held.value.ready(&cells.value, backend);
-        put_registry(registries, cells);
-        self.serving.put(held);
-        ready
+        let kept = self.current(rt, alloc)?;
+        (*kept.shown).get_backend()
     }
 
     /// Enables or disables a backend of the newest membership, by identity; another is left alone.
     ///
-    /// It needs no memory: where that is refused, the next selection shows it.
-    pub fn set_enable<W: Wait>(&self, rt: &W, alloc: Global, backend: &Backend, enabled: bool)
+    /// It takes no memory.
+    pub fn set_enable<W: Wait>(&self, rt: &W, backend: &Backend, enabled: bool)
         ensures { UnderServing self.now (SetsFlag backend.now enabled) }
     {
         let _key = &self.origin;
         let mut held = self.serving.take(rt);
         held.value.set_enable(backend, enabled);
-        let registries = self.origin.registry();
-        let cells = take_registry(registries, rt);
-        let gone = self.exchange(rt, alloc, &held.value, &cells.value);
-        put_registry(registries, cells);
         self.serving.put(held);
-        drop(gone);
-        self.spread(rt);
+        self.changes.fetch_add(1, SeqCst);
+        self.judge_all(rt);
     }
 
     /// Sets the load of a backend's identity, which outlives each update.
@@ -559,16 +599,16 @@ impl<
     }
 
     // What was shown last.
-    pub(crate) fn latest<W: Wait>(&self, rt: &W) -> Result<Arc<Shown<S>>, Refusal>
-        ensures shown { IfOk result (λ s. IsShownBy R.gives self.now (arc_value s)) }
+    pub(crate) fn latest<W: Wait>(&self, rt: &W) -> Result<KeptShown<S, D, R, C>, Refusal>
+        ensures kept { IfOk result (λ k. IsKept R.gives self.now k.shown k.ready) }
         ensures refused { IfErr result (λ e. e ≡ Refusal.OutOfMemory) }
     {
         let _key = &self.origin;
         let held = self.shown.take(rt);
-        let shown = Arc::try_clone(&held.value);
+        let kept = held.value.try_clone();
         self.shown.put(held);
-        let shown = shown?;
-        Ok(shown)
+        let kept = kept?;
+        Ok(kept)
     }
 
     // Shows what is served where it isn't shown yet; and what was shown before.
@@ -577,15 +617,15 @@ impl<
         rt: &W,
         alloc: Global,
         serving: &Serving<S>,
-    ) -> Result<(Arc<Shown<S>>, Arc<Shown<S>>), Refusal>
+    ) -> Result<(KeptShown<S, D, R, C>, KeptShown<S, D, R, C>), Refusal>
         requires { IsServedBy self.now serving.now }
-        ensures shown { IfOk result (λ s. IsShownBy R.gives self.now (arc_value s.0)) }
+        ensures kept { IfOk result (λ k. IsKept R.gives self.now k.0.shown k.0.ready) }
         ensures refused { IfErr result (λ e. e ≡ Refusal.OutOfMemory) }
     {
         let version = self.version();
         let latest = self.latest(rt)?;
-        if latest.version() == version {
-            let again = Arc::try_clone(&latest)?;
+        if (*latest.shown).version() == version {
+            let again = latest.try_clone()?;
             return Ok((again, latest));
         }
         let registries = self.origin.registry();
@@ -599,22 +639,9 @@ impl<
             &self.origin,
         );
         put_registry(registries, cells);
-        let shown = told?;
-        let again = Arc::try_clone(&shown)?;
-        Ok((again, self.swap(rt, shown)))
-    }
-
-    // Shows what is served, in each lane, where something changed since it was shown. It is for the thread of a pass of checks, so that
-    // requests seldom have to. Where memory is refused, the next selection shows it.
-    fn show_flips<W: Wait>(&self, rt: &W, alloc: Global) {
-        let is_shown = match self.latest(rt) {
-            Ok(latest) => latest.version() == self.version(),
-            Err(_) => false,
-        };
-        if !is_shown {
-            drop(self.shown(rt, alloc));
-            self.spread(rt);
-        }
+        let kept = KeptShown::new(told?, latest.ready);
+        let again = kept.try_clone()?;
+        Ok((again, self.swap(rt, kept)))
     }
 }
 
@@ -638,7 +665,7 @@ impl<
         ensures { OnErr result (IsGrowthRefusal result) }
     {
         let result = self.origin.registry().run_health_check(rt, alloc, parallel);
-        self.show_flips(rt, alloc);
+        self.judge_all(rt);
         result
     }
 }
@@ -708,11 +735,11 @@ fn places_over<S: BackendSelection, D, R: KeyRule + Drop, C: HealthCheck + Drop,
     let cells = take_registry(registry, rt);
     let told = shown_of(alloc, &serving, &cells.value, &loads, version, origin);
     put_registry(registry, cells);
-    let shown = told?;
+    let kept = KeptShown::new(told?, None);
     let key = Snapshot::of(origin);
     Ok(Places {
         serving: KeyedLock::new(alloc, serving, &key)?,
-        shown: KeyedLock::new(alloc, shown, &key)?,
+        shown: KeyedLock::new(alloc, kept, &key)?,
         generation: KeyedNumbers::new(alloc, 1, &key)?,
         lanes,
         generator,

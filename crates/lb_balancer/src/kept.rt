@@ -1,28 +1,126 @@
-//! What a balancer keeps in its lanes, and selections in it without a lock. A selection finds out by two loads whether its lane has what
-//! is served now: one of the balancer's changes and one of the registry's.
-ghost use Rattle.std.specs.Prelude.{◌≡◌, IfErr, IfSome, OnOk};
+//! What a balancer keeps in its lanes, and selections in it without a lock. A selection finds out by one load whether its lane has the
+//! generation that is served now, and by three whether a backend's word is of now: those of the word and of the changes of balancer and
+//! registry.
+ghost use Rattle.std.specs.Prelude.{◌≡◌, IfErr, IfOk, IfSome, OnOk};
 ghost use Rattle.std.specs.Arc.{arc_value};
 ghost use Rattle.lb_rebuild_core.specs.GroupCalls.{AcceptsBy};
-ghost use Rattle.lb_balancer.specs.History.{IsShownBy};
-ghost use Rattle.lb_balancer.specs.Selections.{SelectsFrom};
+ghost use Rattle.lb_balancer.specs.History.{BalancerValue, IsShownBy, JudgedBy, JudgedIn};
+ghost use Rattle.lb_balancer.specs.Kept.{IsKept};
+ghost use Rattle.lb_balancer.specs.Selections.{SelectsFrom, WasReady};
 ghost use Rattle.lb_balancer.specs.Shown.{ShownValue};
 
 use crate::balancing::Balancing;
-use crate::origin::KeptShown;
+use crate::origin::Origin;
+use crate::readiness::Readiness;
 use crate::shown::Shown;
+use counted_slot::Fits;
 use lb_health_core::health_check::HealthCheck;
 use lb_health_core::keys::KeyRule;
 use lb_health_view::discovery::ServiceDiscovery;
 use lb_select_base::backend::Backend;
 use lb_select_base::refusal::Refusal;
 use lb_select_base::walk::BackendSelection;
-use std::alloc::Global;
+use lb_threads_core::ready_words::Said;
+use std::alloc::{AllocError, Global};
 use std::sync::{Arc, Wait};
 
 // The numbers of FNV-1a of 64 bits.
 const BASIS: u64 = 0xcbf2_9ce4_8422_2325;
 
 const PRIME: u64 = 0x100_0000_01b3;
+
+/// What is shown, with words that say which of its members are ready now; without, where memory was refused for them.
+#[derive(Drop)]
+pub struct KeptShown<S: BackendSelection, D, R: KeyRule + Drop, C> {
+    pub(crate) shown: Arc<Shown<S>>,
+    pub(crate) ready: Option<Arc<Readiness<S, D, R, C>>>,
+}
+
+impl<S: BackendSelection, D, R: KeyRule + Drop, C> Fits for KeptShown<S, D, R, C> {
+    ghost use Rattle.lb_balancer.specs.Kept.{IsKept};
+
+    type Tag = Origin<S, D, R, C>;
+
+    ghost fits = { λ origin kept. IsKept R.gives origin kept.shown kept.ready };
+}
+
+impl<S: BackendSelection, D, R: KeyRule + Drop, C> KeptShown<S, D, R, C> {
+    // What is shown, with these words where they are of its generation.
+    pub(crate) fn new(
+        shown: Arc<Shown<S>>,
+        ready: Option<Arc<Readiness<S, D, R, C>>>,
+    ) -> KeptShown<S, D, R, C>
+        ensures { (b : BalancerValue D S.Config R) → IsShownBy R.gives b (arc_value shown)
+            → IfSome ready (λ r. (arc_value r).balancer ≡ b) → IsKept R.gives b result.shown result.ready }
+    {
+        let generation = (*shown).generation();
+        let is_of_it = match &ready {
+            Some(ready) => (**ready).generation() == generation,
+            None => false,
+        };
+        if is_of_it {
+            KeptShown { shown, ready }
+        } else {
+            KeptShown { shown, ready: None }
+        }
+    }
+
+    // The same once more.
+    pub(crate) fn try_clone(&self) -> Result<KeptShown<S, D, R, C>, AllocError>
+        ensures { (b : BalancerValue D S.Config R) → IsKept R.gives b self.now.shown self.now.ready
+            → IfOk result (λ k. IsKept R.gives b k.shown k.ready) }
+    {
+        let shown = Arc::try_clone(&self.shown)?;
+        let ready = match &self.ready {
+            Some(ready) => Some(Arc::try_clone(ready)?),
+            None => None,
+        };
+        Ok(KeptShown { shown, ready })
+    }
+
+    // The generation of what is shown.
+    pub(crate) fn generation(&self) -> u64
+        ensures { result ≡ (arc_value self.now.shown).generation }
+    {
+        (*self.shown).generation()
+    }
+
+    // What the word of a backend says.
+    #[inline]
+    pub(crate) fn said(&self, backend: &Backend) -> Option<Said>
+        ensures { (b : BalancerValue D S.Config R) → IsKept R.gives b self.now.shown self.now.ready
+            → IfSome result (λ said. JudgedIn R.gives b (arc_value self.now.shown).generation backend.now said.ready) }
+    {
+        match &self.ready {
+            Some(ready) => (**ready).words().said(backend),
+            None => None,
+        }
+    }
+
+    // Notes whether a backend is ready, for others.
+    pub(crate) fn note(&self, backend: &Backend, said: Said)
+        requires { IfSome self.now.ready (λ r. JudgedIn R.gives (arc_value r).balancer (arc_value r).number backend.now said.ready) }
+    {
+        if let Some(ready) = &self.ready {
+            (**ready).words().note(backend, said);
+        }
+    }
+
+    // Whether a backend was ready when this was shown.
+    pub(crate) fn was_ready(&self, backend: &Backend) -> bool
+        ensures { WasReady (arc_value self.now.shown) backend.now result }
+    {
+        (*self.shown).was_ready(backend)
+    }
+
+    // The members that have a word.
+    pub(crate) fn marks(&self) -> &[Option<Backend>] {
+        match &self.ready {
+            Some(ready) => (**ready).words().marks(),
+            None => &[],
+        }
+    }
+}
 
 // The lane that a key's selections go to: keys spread over the lanes, so that threads seldom meet in one.
 pub(crate) fn hint_of(key: &[u8]) -> u64 {
@@ -39,7 +137,7 @@ impl<
     R: KeyRule + Drop,
     C: HealthCheck + Drop,
 > Balancing<S, D, R, C> {
-    // Selects in what the hint's lane has, where that is what is served now. It takes no lock but that of random words.
+    // Selects in what the hint's lane has, where that is of the generation that is served now.
     pub(crate) fn select_in_lane<W: Wait, F: Fn(&Backend, bool) -> bool>(
         &self,
         rt: &W,
@@ -51,28 +149,45 @@ impl<
     ) -> Option<Result<Option<Backend>, Refusal>>
         requires { F.IsAlwaysCallable accept.now }
         ensures answers { IfSome result (λ r. OnOk r ((s : ShownValue S.Config) × IsShownBy R.gives self.now s
-            × SelectsFrom (AcceptsBy F.Fn accept.now) max_iterations S.walks key.now s r)) }
+            × SelectsFrom R.gives self.now (AcceptsBy F.Fn accept.now) max_iterations S.walks key.now s r)) }
         ensures refused { IfSome result (λ r. IfErr r (λ e. e ≡ Refusal.OutOfMemory)) }
     {
         let seen = self.lanes.read(hint, &self.origin)?;
         let kept = seen.value()?;
-        let shown: &Shown<S> = &*kept.shown;
-        if shown.version() != self.version() {
+        if !self.is_served(kept.generation()) {
             return None;
         }
         let generator = self.lanes.generator(hint);
-        Some(shown.select_drawing(rt, alloc, generator, key, max_iterations, accept))
+        Some(self.select_kept(rt, alloc, kept, generator, key, max_iterations, accept))
     }
 
-    // Gives the hint's lane what is shown. Where something changed meanwhile, the lane is emptied, so that none has for long what isn't
-    // served.
-    pub(crate) fn refill(&self, hint: u64, shown: Arc<Shown<S>>)
-        requires { IsShownBy R.gives self.now (arc_value shown) }
+    // Whether a member is ready, as its word says, where the first lane has what is served and the word is of now.
+    pub(crate) fn ready_in_lane(&self, backend: &Backend) -> Option<bool>
+        ensures { IfSome result (JudgedBy R.gives self.now backend.now) }
     {
-        let version = shown.version();
-        let unneeded = self.lanes.renew(hint, KeptShown::new(shown), &self.origin);
+        let changes = self.changes_so_far();
+        let seen = self.lanes.read(0, &self.origin)?;
+        let kept = seen.value()?;
+        if !self.is_served(kept.generation()) {
+            return None;
+        }
+        let said = kept.said(backend)?;
+        if said.changes == changes {
+            Some(said.ready)
+        } else {
+            None
+        }
+    }
+
+    // Gives the hint's lane what is kept. Where another generation is served meanwhile, the lane is emptied, so that none has for long
+    // what isn't served.
+    pub(crate) fn refill(&self, hint: u64, kept: KeptShown<S, D, R, C>)
+        requires { IsKept R.gives self.now kept.shown kept.ready }
+    {
+        let generation = kept.generation();
+        let unneeded = self.lanes.renew(hint, kept, &self.origin);
         drop(unneeded);
-        if version != self.version() {
+        if !self.is_served(generation) {
             drop(self.lanes.clear(hint, &self.origin));
         }
     }
@@ -82,7 +197,7 @@ impl<
         for lane in 0..self.lanes.count() {
             let hint = lane as u64;
             match self.latest(rt) {
-                Ok(shown) => self.refill(hint, shown),
+                Ok(kept) => self.refill(hint, kept),
                 Err(_) => drop(self.lanes.clear(hint, &self.origin)),
             }
         }

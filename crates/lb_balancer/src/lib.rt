@@ -3,11 +3,13 @@
 #![tactic(auto)]
 
 pub mod balancing;
+pub mod judging;
 pub mod kept;
 pub mod load_balancer;
 pub mod making;
 pub mod origin;
 pub mod reader;
+pub mod readiness;
 pub mod run;
 pub mod serving;
 pub mod shown;

@@ -154,7 +154,7 @@ impl<
         max_iterations: usize,
     ) -> Result<Option<Backend>, Refusal>
         ensures answers { OnOk result ((s : ShownValue S.Config) × IsShownBy R.gives self.now.shared s
-            × SelectsFrom (λ was_ready. was_ready) max_iterations S.walks key.now s result) }
+            × SelectsFrom R.gives self.now.shared (λ is_ready. is_ready) max_iterations S.walks key.now s result) }
         ensures refused { IfErr result (λ e. e ≡ Refusal.OutOfMemory) }
     {
         self.select_with(rt, alloc, key, max_iterations, &ready_ones)
@@ -173,7 +173,7 @@ impl<
     ) -> Result<Option<Backend>, Refusal>
         requires { F.IsAlwaysCallable accept.now }
         ensures answers { OnOk result ((s : ShownValue S.Config) × IsShownBy R.gives self.now.shared s
-            × SelectsFrom (AcceptsBy F.Fn accept.now) max_iterations S.walks key.now s result) }
+            × SelectsFrom R.gives self.now.shared (AcceptsBy F.Fn accept.now) max_iterations S.walks key.now s result) }
         ensures refused { IfErr result (λ e. e ≡ Refusal.OutOfMemory) }
     {
         let hint = hint_of(key);
@@ -183,10 +183,10 @@ impl<
         if let Some(answer) = found {
             return answer;
         }
-        let served = self.shared.shown(rt, alloc)?;
-        let shown: &Shown<S> = &*served;
-        let answer = shown.select_with(rt, alloc, key, max_iterations, accept);
-        self.shared.refill(hint, served);
+        let shared = &self.shared;
+        let kept = shared.current(rt, alloc)?;
+        let answer = shared.select_kept(rt, alloc, &kept, None, key, max_iterations, accept);
+        shared.refill(hint, kept);
         answer
     }
 

@@ -3,16 +3,15 @@
 ghost use Rattle.std.specs.Prelude.{◌≡◌, unwrap_or};
 ghost use Rattle.std.specs.Arc.{arc_value};
 
+use crate::kept::KeptShown;
 use crate::serving::Serving;
-use crate::shown::Shown;
-use counted_slot::Fits;
 use lb_health_core::keys::KeyRule;
 use lb_health_view::discovery::DiscoverySource;
 use lb_select_base::walk::BackendSelection;
 use lb_threads_core::registry::HealthRegistry;
 use lb_threads_core::rule::LockRule;
 use lb_threads_core::word_rule::WordRule;
-use std::marker::{Model, PhantomData};
+use std::marker::Model;
 use std::snapshot::Snapshot;
 use std::sync::Arc;
 
@@ -91,39 +90,10 @@ impl<S: BackendSelection, D, R: KeyRule + Drop, C> WordRule<Snapshot<Origin<S, D
 pub struct OfShown {}
 
 impl<S: BackendSelection, D, R: KeyRule + Drop, C> LockRule<
-    Arc<Shown<S>>,
+    KeptShown<S, D, R, C>,
     Snapshot<Origin<S, D, R, C>>,
 > for OfShown {
-    ghost use Rattle.std.specs.Arc.{arc_value};
-    ghost use Rattle.lb_balancer.specs.History.{IsShownBy};
+    ghost use Rattle.lb_balancer.specs.Kept.{IsKept};
 
-    ghost holds = { λ key s. IsShownBy R.gives key.value (arc_value s) };
-}
-
-/// What is shown, in a lane of the balancer that showed it.
-#[derive(Drop)]
-pub struct KeptShown<S: BackendSelection, D, R: KeyRule + Drop, C> {
-    pub(crate) shown: Arc<Shown<S>>,
-    of: PhantomData<Origin<S, D, R, C>>,
-}
-
-impl<S: BackendSelection, D, R: KeyRule + Drop, C> KeptShown<S, D, R, C> {
-    // What is shown, for a lane.
-    pub(crate) fn new(shown: Arc<Shown<S>>) -> KeptShown<S, D, R, C>
-        ensures { result.shown ≡ shown }
-    {
-        KeptShown {
-            shown,
-            of: PhantomData,
-        }
-    }
-}
-
-impl<S: BackendSelection, D, R: KeyRule + Drop, C> Fits for KeptShown<S, D, R, C> {
-    ghost use Rattle.std.specs.Arc.{arc_value};
-    ghost use Rattle.lb_balancer.specs.History.{IsShownBy};
-
-    type Tag = Origin<S, D, R, C>;
-
-    ghost fits = { λ origin kept. IsShownBy R.gives origin (arc_value kept.shown) };
+    ghost holds = { λ key kept. IsKept R.gives key.value kept.shown kept.ready };
 }

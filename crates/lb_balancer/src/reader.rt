@@ -5,8 +5,8 @@ ghost use Rattle.lb_balancer.specs.History.{IsShownBy};
 ghost use Rattle.lb_balancer.specs.Selections.{SelectsFrom};
 
 use crate::balancing::Balancing;
+use crate::kept::KeptShown;
 use crate::load_balancer::LoadBalancer;
-use crate::shown::Shown;
 use lb_health_core::health_check::HealthCheck;
 use lb_health_core::keys::KeyRule;
 use lb_health_view::discovery::ServiceDiscovery;
@@ -17,14 +17,14 @@ use lb_select_base::walk::BackendSelection;
 use lb_threads_core::generators::SharedGenerator;
 use std::alloc::Global;
 use std::marker::Model;
-use std::sync::{Arc, Wait};
+use std::sync::Wait;
 
 /// A balancer with what it served last, and with random words of its own. While that is still served a selection takes no lock that another
 /// thread takes, and writes nothing that another thread reads but the tickets it draws. What is served no longer is kept until the next
 /// selection.
 pub struct BalancerReader<'b, S: BackendSelection, D, R: KeyRule + Drop, C> {
     balancing: &'b Balancing<S, D, R, C>,
-    seen: Arc<Shown<S>>,
+    seen: KeptShown<S, D, R, C>,
     generator: SharedGenerator,
 }
 
@@ -41,14 +41,14 @@ impl<'b, S: BackendSelection, D, R: KeyRule + Drop, C> Drop for BalancerReader<'
 // What a reader saw its balancer showed.
 impl<'b, S: BackendSelection, D, R: KeyRule + Drop, C> Model for BalancerReader<'b, S, D, R, C> {
     ghost use Rattle.std.specs.Arc.{arc_value};
-    ghost use Rattle.lb_balancer.specs.History.{IsShownBy};
+    ghost use Rattle.lb_balancer.specs.Kept.{IsKept};
     ghost use Rattle.lb_balancer.specs.Selections.{ReaderValue};
 
     ghost Value = { ReaderValue D S.Config R };
 
-    ghost view = { λ r. record { balancing = r.balancing.now; seen = arc_value r.seen } };
+    ghost view = { λ r. record { balancing = r.balancing.now; seen = arc_value r.seen.shown } };
 
-    ghost invariant = { λ r. IsShownBy R.gives r.balancing.now (arc_value r.seen) };
+    ghost invariant = { λ r. IsKept R.gives r.balancing.now r.seen.shown r.seen.ready };
 }
 
 impl<
@@ -69,7 +69,7 @@ impl<
         ensures refused { IfErr result (λ e. e ≡ Refusal.OutOfMemory) }
     {
         let balancing = &self.shared;
-        let seen = balancing.shown(rt, alloc)?;
+        let seen = balancing.current(rt, alloc)?;
         Ok(BalancerReader {
             balancing,
             seen,
@@ -85,20 +85,20 @@ impl<
     R: KeyRule + Drop,
     C: HealthCheck + Drop,
 > BalancerReader<'b, S, D, R, C> {
-    // Looks whether something changed since, and takes what is served now, which is no older than what was seen.
+    // Looks whether another generation is served, and takes what is served now, which is no older than what was seen.
     fn look<W: Wait>(&mut self, rt: &W, alloc: Global) -> Result<(), Refusal>
         ensures same { self.new.balancing ≡ self.old.balancing }
         ensures later { self.old.seen.generation ≤ self.new.seen.generation }
         ensures shown { IsShownBy R.gives self.old.balancing self.new.seen }
         ensures refused { IfErr result (λ e. e ≡ Refusal.OutOfMemory) }
     {
-        if self.seen.version() == self.balancing.version() {
+        if self.balancing.is_served(self.seen.generation()) {
             return Ok(());
         }
-        let shown = self.balancing.shown(rt, alloc)?;
+        let kept = self.balancing.current(rt, alloc)?;
         // Generations never fall, but no contract says so: callers know it by this look.
-        if self.seen.generation() <= shown.generation() {
-            self.seen = shown;
+        if self.seen.generation() <= kept.generation() {
+            self.seen = kept;
         }
         Ok(())
     }
@@ -120,7 +120,7 @@ impl<
         max_iterations: usize,
     ) -> Result<Option<Backend>, Refusal>
         ensures answers { OnOk result
-            (SelectsFrom (λ was_ready. was_ready) max_iterations S.walks key.now self.new.seen result) }
+            (SelectsFrom R.gives self.old.balancing (λ is_ready. is_ready) max_iterations S.walks key.now self.new.seen result) }
         ensures later { self.old.seen.generation ≤ self.new.seen.generation }
         ensures shown { IsShownBy R.gives self.old.balancing self.new.seen }
         ensures refused { IfErr result (λ e. e ≡ Refusal.OutOfMemory) }
@@ -140,15 +140,22 @@ impl<
     ) -> Result<Option<Backend>, Refusal>
         requires { F.IsAlwaysCallable accept.now }
         ensures answers { OnOk result
-            (SelectsFrom (AcceptsBy F.Fn accept.now) max_iterations S.walks key.now self.new.seen result) }
+            (SelectsFrom R.gives self.old.balancing (AcceptsBy F.Fn accept.now) max_iterations S.walks key.now self.new.seen result) }
         ensures later { self.old.seen.generation ≤ self.new.seen.generation }
         ensures shown { IsShownBy R.gives self.old.balancing self.new.seen }
         ensures refused { IfErr result (λ e. e ≡ Refusal.OutOfMemory) }
         ensures same { self.new.balancing ≡ self.old.balancing }
     {
         self.look(rt, alloc)?;
-        let seen: &Shown<S> = &*self.seen;
         let generator = Some(&self.generator);
-        seen.select_drawing(rt, alloc, generator, key, max_iterations, accept)
+        self.balancing.select_kept(
+            rt,
+            alloc,
+            &self.seen,
+            generator,
+            key,
+            max_iterations,
+            accept,
+        )
     }
 }

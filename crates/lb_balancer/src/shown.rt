@@ -1,6 +1,7 @@
 //! What a balancer served at one moment. A selection goes on in it, whatever updates and checks change meanwhile.
 ghost use Rattle.std.specs.Prelude.{◌≡◌, ℕ, Bool, List, IfOk, IfErr, OnErr, Err, not};
 ghost use Rattle.std.specs.Arc.{arc_value};
+ghost use Rattle.std.specs.Fn.{FnReturnsAt};
 ghost use Rattle.std.specs.List.{list_any};
 ghost use Rattle.lb_select_base.specs.Backends.{Member, same_member};
 ghost use Rattle.lb_rebuild_core.specs.GroupCalls.{AcceptsBy};
@@ -113,6 +114,14 @@ impl<S: BackendSelection> Shown<S> {
         self.version
     }
 
+    // Whether a backend was ready, as a selection asks it: of members it is whether they were.
+    #[inline]
+    pub(crate) fn was_ready(&self, backend: &Backend) -> bool
+        ensures { result ≡ is_up self.now.unready backend.now }
+    {
+        !self.unready.contains(backend)
+    }
+
     /// Returns the first backend that `accept` takes among the distinct of the first `max_iterations` candidates for `key`, or `None`.
     ///
     /// `accept` is asked with a backend and whether it was ready, while no lock is held. Refused for memory alone.
@@ -128,12 +137,17 @@ impl<S: BackendSelection> Shown<S> {
         ensures answers { SelectsOf same_member (AcceptsBy F.Fn accept.now (λ b ready. ready ≡ is_up self.now.unready b)) max_iterations
             (S.walks self.now.members self.now.config key.now) result }
     {
-        self.select_drawing(rt, alloc, None, key, max_iterations, accept)
+        let shown = self;
+        let judged = |backend: &Backend| -> bool
+            requires { F.IsAlwaysCallable accept.now }
+            ensures { AcceptsBy F.Fn accept.entry.now (λ b ready. ready ≡ is_up shown.entry.now.unready b) backend.entry.now result }
+        { accept(backend, shown.was_ready(backend)) };
+        self.select_drawing(rt, alloc, None, key, max_iterations, &judged)
     }
 
-    // Selects as `select_with`, with random words of this generator, or of the selector's own for `None`.
+    // Returns the first backend that `accept` takes, with random words of this generator, or of the selector's own for `None`.
     #[inline]
-    pub(crate) fn select_drawing<W: Wait, F: Fn(&Backend, bool) -> bool>(
+    pub(crate) fn select_drawing<W: Wait, F: Fn(&Backend) -> bool>(
         &self,
         rt: &W,
         alloc: Global,
@@ -143,14 +157,9 @@ impl<S: BackendSelection> Shown<S> {
         accept: &F,
     ) -> Result<Option<Backend>, Refusal>
         requires { F.IsAlwaysCallable accept.now }
-        ensures answers { SelectsOf same_member (AcceptsBy F.Fn accept.now (λ b ready. ready ≡ is_up self.now.unready b)) max_iterations
+        ensures answers { SelectsOf same_member (λ b a. FnReturnsAt F.Fn accept.now b a) max_iterations
             (S.walks self.now.members self.now.config key.now) result }
     {
-        let unready = &self.unready;
-        let judged = |backend: &Backend| -> bool
-            requires { F.IsAlwaysCallable accept.now }
-            ensures { AcceptsBy F.Fn accept.entry.now (λ b ready. ready ≡ is_up unready.entry.now.keys b) backend.entry.now result }
-        { accept(backend, !unready.contains(backend)) };
         let shared: &SharedWords = &*self.words;
         let mut words = LoadedWords {
             words: shared.lend(rt),
@@ -165,7 +174,7 @@ impl<S: BackendSelection> Shown<S> {
             key,
             &mut words,
             max_iterations,
-            &judged,
+            accept,
         )
     }
 

@@ -17,6 +17,7 @@ pub mod making;
 pub mod marks;
 pub mod numbers;
 pub mod owner;
+pub mod ready_words;
 pub mod registry;
 pub mod rule;
 pub mod wakes;

@@ -15,19 +15,16 @@ use Rattle.lb_rebuild.specs.contracts.watched.Watched as watched
 use Rattle.lb_rebuild.proofs.Crossings.{watched_send}
 use Rattle.lb_threads_core.proofs.registry.HealthRegistry.TheSendSync as registry
 use Rattle.lb_threads_core.proofs.gate.SelectorRebuildGate.TheSendSync as gate
-use Rattle.std.proofs.MapsCrossing as maps
-use Rattle.lb_select_base.proofs.backend.Backend.TheSendSync as backend
 use Rattle.lb_threads_core.proofs.lanes.Lanes.TheSendSync as lanes
 use Rattle.lb_rebuild_core.specs.contracts.place.SlotPlace as place
 use Rattle.lb_rebuild_core.specs.contracts.retired.Reader as reader
 use Rattle.lb_threads_group.proofs.group.SlotCounters.TheSendSync as line
 use Rattle.lb_threads_group.proofs.group.Marks.TheSendSync as marks
 use Rattle.lb_threads_group.proofs.found.Tickets.TheSendSync as tickets
-use Rattle.lb_threads_core.proofs.words.KeyedWords.TheSendSync as keyed
+use Rattle.lb_threads_core.proofs.ready_words.ReadyWords.TheSendSync as ready
 use Rattle.lb_threads_core.proofs.numbers.KeyedNumbers.TheSendSync as numbered
 use Rattle.lb_threads_group.specs.contracts.found.Found as found
 use Rattle.lb_threads_group.specs.contracts.found.Found.TheInside as found_inside
-use Rattle.lb_threads_group.specs.contracts.found.Subject as subject
 use Rattle.lb_threads_group.specs.contracts.found.SlotWords as slot_words
 use Rattle.lb_threads_group.specs.contracts.kept.Entry as entry
 use Rattle.lb_threads_group.specs.contracts.kept.Site as site
@@ -57,24 +54,15 @@ module _ (T R H I C W : RattleType) (g : Selection T.Denot I.Denot C.Denot W.Den
   site_sync : IsSync (site.the_row T R H I C W g h k)
   site_sync = search (sendable, crosses) depth 20
 
-  subject_send : IsSend (subject.the_row T R H I C W g h k)
-  subject_send = search (sendable, crosses) depth 20
-
-  subject_sync : IsSync (subject.the_row T R H I C W g h k)
-  subject_sync = search (sendable, crosses) depth 20
-
   found_inside_send : IsSend (found_inside.the_row T R H I C W g h k)
   found_inside_send = recorded_send (found_inside.the_field T R H I C W g h k).row _ _ (found_inside.the_type T R H I C W g h k).to_one
       (struct_send (shape (found_inside.the_type T R H I C W g h k)) (
         search (sendable, crosses) depth 20,
         (
-          search (sendable, crosses, maps.crosses, backend.the_send, backend.the_sync) depth 30,
+          search (sendable, crosses, ready.the_send) depth 20,
           (
-            search (sendable, crosses, keyed.the_field_send, keyed.the_send, subject_send, subject_sync) depth 30,
-            (
-              search (sendable, crosses, load_words.the_send, load_words.the_sync) depth 20,
-              (search (sendable, crosses, tickets.the_send) depth 20, tt),
-            ),
+            search (sendable, crosses, load_words.the_send, load_words.the_sync) depth 20,
+            (search (sendable, crosses, tickets.the_send) depth 20, tt),
           ),
         ),
       ))
@@ -84,13 +72,10 @@ module _ (T R H I C W : RattleType) (g : Selection T.Denot I.Denot C.Denot W.Den
       (struct_sync (shape (found_inside.the_type T R H I C W g h k)) (
         search (sendable, crosses) depth 20,
         (
-          search (sendable, crosses, maps.crosses, backend.the_send, backend.the_sync) depth 30,
+          search (sendable, crosses, ready.the_sync) depth 20,
           (
-            search (sendable, crosses, keyed.the_field_sync, keyed.the_sync, subject_send, subject_sync) depth 30,
-            (
-              search (sendable, crosses, load_words.the_send, load_words.the_sync) depth 20,
-              (search (sendable, crosses, tickets.the_sync) depth 20, tt),
-            ),
+            search (sendable, crosses, load_words.the_send, load_words.the_sync) depth 20,
+            (search (sendable, crosses, tickets.the_sync) depth 20, tt),
           ),
         ),
       ))

@@ -1,6 +1,5 @@
 pub mod Crossings
 pub mod Entries
 pub mod NumberLemmas
-pub mod Readiness
 pub mod Releases
 pub mod Sites

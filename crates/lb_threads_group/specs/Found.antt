@@ -1,8 +1,6 @@
 -- What is known of which backends are ready for the readers of a generation, each at some state of group and registry. Readiness is the
 -- same for all readers of a generation.
-use Rattle.std.specs.Prelude.{◌≡◌, ◌↔◌, ◌%◌, ℕ, Bool, true, false, List, Option, IsTrue, IfSome, slice_get}
-use Rattle.std.specs.Arc.{arc_value}
-use Rattle.std.specs.declared.sync.Arc.{Arc}
+use Rattle.std.specs.Prelude.{◌↔◌, ℕ, Bool, List, IsTrue}
 use Rattle.lb_select_base.specs.Backends.{Member}
 use Rattle.lb_health_core.specs.Registry.{IsRegistryAfter}
 use Rattle.lb_health_core.specs.RegistryEvents.{Event}
@@ -23,16 +21,3 @@ module _ {C R : Type 0} (gives : R → Member → Member → Type 0) where
       SeenBeside gives site (λ v x. (key_of : Member → Member) (events : List Event)
       → IsRegistryAfter gives key_of events x
       → After v (λ made e. IsTrue a ↔ IsReady key_of (views_of made e) events g b))
-
--- what a word says by its remainder by 4: 3 that it is so, and 2 that it isn't; 0 and 1 say nothing
-abbrev pub said_as : Bool → ℕ
-said_as true = 3
-said_as false = 2
-
--- what a word says is so
-abbrev pub Says : (Bool → Type 0) → ℕ → Type 0
-Says Told w = (a : Bool) → w % 4 ≡ said_as a → Told a
-
--- the word at a place says whether the backend that has the place is ready, and nothing where none has it
-abbrev pub SaysAt : (Member → Bool → Type 0) → List (Option Member) → ℕ → ℕ → Type 0
-SaysAt Told marks i w = IfSome (slice_get marks i) (λ o. IfSome o (λ b. Says (Told b) w))

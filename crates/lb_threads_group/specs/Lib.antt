@@ -2,4 +2,5 @@ pub mod Found
 pub mod Group
 pub mod Kept
 pub mod Numbers
+pub mod SameReadiness
 pub mod Shared

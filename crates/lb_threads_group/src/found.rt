@@ -1,9 +1,8 @@
-//! Which backends of a generation are ready, as words that the lanes of a slot share: one for each backend, which says whether it is ready
-//! and as of which change that was found. A selection loads the word of its candidate, and asks group and registry where something changed
-//! since; so a flip or a flag costs each backend one question, and no request copies a membership.
-ghost use Rattle.std.specs.Prelude.{◌≡◌, ◌%◌, IfOk, IfSome, None};
+//! Which backends of a generation are ready, as words that the lanes of a slot share. A selection loads the word of its candidate, and asks
+//! group and registry where something changed since.
+ghost use Rattle.std.specs.Prelude.{◌≡◌, IfOk, IfSome, None};
 ghost use Rattle.std.specs.Arc.{arc_value};
-ghost use Rattle.lb_threads_group.specs.Found.{ReadyAt, said_as};
+ghost use Rattle.lb_threads_group.specs.Found.{ReadyAt};
 ghost use Rattle.lb_threads_group.specs.Group.{ReadyUnder};
 ghost use Rattle.lb_threads_group.specs.Kept.{IsFoundOf};
 ghost use Rattle.lb_threads_group.specs.Shared.{SharedValue};
@@ -17,11 +16,9 @@ use lb_select_base::backend::Backend;
 use lb_select_base::walk::BackendSelection;
 use lb_threads_core::loads::LoadWords;
 use lb_threads_core::lock::KeyedLock;
-use lb_threads_core::marks::{Marks, marks_of, place_of};
+use lb_threads_core::ready_words::{CHANGES, ReadyRule, ReadyWords, Said};
 use lb_threads_core::registry::{HealthRegistry, put_registry, take_registry};
 use lb_threads_core::rule::LockRule;
-use lb_threads_core::word_rule::WordRule;
-use lb_threads_core::words::KeyedWords;
 use std::alloc::{AllocError, Global};
 use std::collections::BTreeSet;
 use std::marker::Model;
@@ -31,30 +28,24 @@ use std::sync::atomic::AtomicU64;
 use std::sync::atomic::Ordering::SeqCst;
 use std::sync::{Arc, Wait};
 
-// What a word says.
-const IS_UNREADY: u64 = 2;
-
-const IS_READY: u64 = 3;
-
-// Numbers of changes are kept modulo this, so that a word has place for one.
-const CHANGES: u64 = 0x2000_0000_0000_0000;
-
-/// Of what words are: the group and the registry, the generation, and the backend of each place.
+/// Of what words are: the group and the registry, and the generation.
 #[derive(Drop)]
 pub struct Subject<S: BackendSelection, R: KeyRule + Drop, C> {
     site: Snapshot<Site<S, R, C>>,
     generation: u64,
-    marks: Snapshot<Vec<Option<Backend>>>,
 }
 
 /// Each word says of the backend that has its place whether it is ready for the readers of the generation, at some state of group and
 /// registry.
 pub struct OfFound {}
 
-impl<S: BackendSelection, R: KeyRule + Drop, C> WordRule<Subject<S, R, C>> for OfFound {
-    ghost use Rattle.lb_threads_group.specs.Found.{ReadyAt, SaysAt};
+impl<S: BackendSelection, R: KeyRule + Drop, C> ReadyRule<Subject<S, R, C>> for OfFound {
+    ghost use Rattle.lb_threads_group.specs.Found.{ReadyAt};
+    ghost use Rattle.lb_threads_group.specs.SameReadiness.{ready-at};
 
-    ghost holds = { λ of i w. SaysAt (ReadyAt R.gives of.site.value of.generation) of.marks.value.items i w };
+    ghost told = { λ of b ready. ReadyAt R.gives of.site.value of.generation b ready };
+
+    ghost by_identity = { λ of b m ready same told. ready-at R.gives of.site.value of.generation b m ready same told };
 }
 
 // How many tickets were drawn from a selector, wrapping, with so much room that no other word shares its line of memory, nor the one beside
@@ -71,8 +62,7 @@ struct Tickets {
 #[derive(Drop)]
 pub struct Found<S: BackendSelection, R: KeyRule + Drop, C> {
     generation: u64,
-    marks: Marks,
-    words: KeyedWords<Subject<S, R, C>, OfFound>,
+    ready: ReadyWords<Subject<S, R, C>, OfFound>,
     loads: Option<Arc<LoadWords>>,
     tickets: Tickets,
 }
@@ -83,10 +73,9 @@ impl<S: BackendSelection, R: KeyRule + Drop, C> Model for Found<S, R, C> {
 
     ghost Value = { FoundValue S.Config R };
 
-    ghost view = { λ f. record { site = f.words.table.shared.key.site.value; generation = f.generation } };
+    ghost view = { λ f. record { site = f.ready.site.value; generation = f.ready.generation } };
 
-    ghost invariant = { λ f. (f.words.table.shared.key.generation ≡ f.generation)
-        × (f.words.table.shared.key.marks.value.items ≡ f.marks.items) };
+    ghost invariant = { λ f. f.ready.generation ≡ f.generation };
 }
 
 /// The words of a slot: of the generation that it serves, and of the one that is built for it.
@@ -161,18 +150,13 @@ impl<S: BackendSelection, R: KeyRule + Drop, C> Found<S, R, C> {
     ) -> Result<Found<S, R, C>, AllocError>
         ensures { IfOk result (λ f. f.site ≡ site.now) }
     {
-        let marks = marks_of(alloc, backends)?;
-        let none: Vec<u64> = vec![in alloc; 0; marks.len()]?;
         let of = Subject {
             site: Snapshot::of(site),
             generation,
-            marks: Snapshot::of(&marks),
         };
-        let words = KeyedWords::new(alloc, &none, &of)?;
         Ok(Found {
             generation,
-            marks,
-            words,
+            ready: ReadyWords::new(alloc, backends, &of)?,
             loads,
             tickets: Tickets {
                 before: [0; 15],
@@ -202,52 +186,6 @@ impl<S: BackendSelection, R: KeyRule + Drop, C> Found<S, R, C> {
         ensures { result ≡ self.now.generation }
     {
         self.generation
-    }
-
-    // Whether a backend is ready, where its word says so as of this change.
-    #[inline]
-    fn known(&self, changes: u64, backend: &Backend) -> Option<bool>
-        ensures { IfSome result (ReadyAt R.gives self.now.site self.now.generation backend.now) }
-    {
-        let place = place_of(self.marks.as_slice(), backend)?;
-        let word = self.words.load(place)?;
-        if word / 4 != changes {
-            return None;
-        }
-        told_by(word)
-    }
-
-    // Notes whether a backend is ready, as of this change.
-    fn note(&self, changes: u64, backend: &Backend, ready: bool)
-        requires { ReadyAt R.gives self.now.site self.now.generation backend.now ready }
-    {
-        if let Some(place) = place_of(self.marks.as_slice(), backend) {
-            self.words.store(place, word_of(changes, ready));
-        }
-    }
-}
-
-// What a word says.
-#[inline]
-fn told_by(word: u64) -> Option<bool>
-    ensures { IfSome result (λ a. word % 4 ≡ said_as a) }
-{
-    match word % 4 {
-        IS_READY => Some(true),
-        IS_UNREADY => Some(false),
-        _ => None,
-    }
-}
-
-// The word that says so as of this change.
-fn word_of(changes: u64, ready: bool) -> u64
-    ensures { result % 4 ≡ said_as ready }
-{
-    let turn = changes % CHANGES * 4;
-    if ready {
-        turn + IS_READY
-    } else {
-        turn + IS_UNREADY
     }
 }
 
@@ -338,7 +276,7 @@ impl<S: BackendSelection, R: KeyRule + Drop, C: HealthCheck + Drop> SharedGroup<
         if found.generation() != reader.generation() {
             return;
         }
-        for mark in found.marks.as_slice() {
+        for mark in found.ready.marks() {
             if let Some(backend) = mark {
                 self.judge(rt, found, reader, backend);
             }
@@ -387,12 +325,14 @@ impl<S: BackendSelection, R: KeyRule + Drop, C: HealthCheck + Drop> SharedGroup<
         ensures { ReadyAt R.gives self.now reader.now.generation backend.now result }
     {
         let changes = self.changes_so_far();
-        if let Some(ready) = found.known(changes, backend) {
-            return ready;
+        match found.ready.said(backend) {
+            Some(said) if said.changes == changes => said.ready,
+            _ => {
+                let ready = self.ask_ready(rt, reader, backend);
+                found.ready.note(backend, Said { ready, changes });
+                ready
+            }
         }
-        let ready = self.ask_ready(rt, reader, backend);
-        found.note(changes, backend, ready);
-        ready
     }
 
     // Whether group and registry say that a backend is ready for a reader.

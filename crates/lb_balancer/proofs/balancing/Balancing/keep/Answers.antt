@@ -2,21 +2,11 @@
 use Rattle.std.proofs.Common.{◌∙◌, sym}
 use Rattle.lb_health_view.specs.RegistrySide.{settings_of}
 use Rattle.lb_threads_core.proofs.Histories.{later, stays}
-use Rattle.lb_balancer.proofs.Served.{known, of-registry, updated}
+use Rattle.lb_balancer.proofs.Served.{known, updated}
 use Rattle.lb_balancer.proofs.balancing.Balancing.keep.Goals as goal
 
 pub put_registry-requires-clause-registry : goal.put_registry-requires-clause-registry
 put_registry-requires-clause-registry g c = later c.take_registry-cells.ensures.registry (stays c.keep.ensures.registry)
-
-pub exchange-gone-requires-clause-registry : goal.exchange-gone-requires-clause-registry
-exchange-gone-requires-clause-registry g c =
-    of-registry g.R.KeyRule.gives c.registry-registries.ensures c.self.view_is
-    (later c.take_registry-cells.ensures.registry (stays c.keep.ensures.registry))
-
-pub exchange-gone-requires-clause-served : goal.exchange-gone-requires-clause-served
-exchange-gone-requires-clause-served g c =
-    updated c.args.self.now (known (c.self.invariant.0 ∙ c.self.view_is) c.take-held.ensures.fact) c.keep.ensures.config
-    c.args.members.keys (settings_of c.args.settings.entries) c.requires c.keep.ensures.took
 
 pub put-requires-2-clause-fact : goal.put-requires-2-clause-fact
 put-requires-2-clause-fact g c =

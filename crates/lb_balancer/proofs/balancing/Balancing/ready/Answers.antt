@@ -5,14 +5,20 @@ use Rattle.lb_balancer.proofs.balancing.Balancing.ready.Goals as goal
 
 pub returns : goal.returns
 returns g c = (
-  c.take-held.result.value,
+  c.generation-generation.result,
   (
-    known (c.self.invariant.0 ∙ c.self.view_is) c.take-held.ensures.fact,
+    c.take-held.result.value,
     (
-      c.take_registry-cells.result.value,
+      known (c.self.invariant.0 ∙ c.self.view_is) c.take-held.ensures.fact,
       (
-        of-registry g.R.KeyRule.gives c.registry-registries.ensures c.self.view_is c.take_registry-cells.ensures.registry,
-        c.ready-ready.ensures,
+        c.generation-generation.ensures,
+        (
+          c.take_registry-cells.result.value,
+          (
+            of-registry g.R.KeyRule.gives c.registry-registries.ensures c.self.view_is c.take_registry-cells.ensures.registry,
+            c.ready-ready.ensures,
+          ),
+        ),
       ),
     ),
   ),

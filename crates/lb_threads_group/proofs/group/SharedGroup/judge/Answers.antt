@@ -7,13 +7,16 @@ pub returns-in-Some : goal.returns-in-Some
 returns-in-Some g c =
     let gives = g.R.KeyRule.gives in
     let b = c.args.backend.now in
-    subst (λ s. ReadyAt gives s c.args.reader.now.generation b c.in-Some.ready) c.requires.found.0
-    (subst (λ n. ReadyAt gives c.args.found.now.site n b c.in-Some.ready) c.requires.found.1 c.in-Some.ensures)
+    let ready = c.in-Some.said.ready in
+    subst (λ s. ReadyAt gives s c.args.reader.now.generation b ready) c.requires.found.0
+    (subst (λ n. ReadyAt gives c.args.found.now.site n b ready) c.requires.found.1
+    (subst (λ v. ReadyAt gives v.site v.generation b ready) c.found.view_is c.in-Some.ensures))
 
 pub note-requires : goal.note-requires
 note-requires g c =
     let gives = g.R.KeyRule.gives in
     let b = c.args.backend.now in
     let ready = c.ask_ready-ready.result in
-    subst (λ n. ReadyAt gives c.args.found.now.site n b ready) (sym c.requires.found.1)
-    (subst (λ s. ReadyAt gives s c.args.reader.now.generation b ready) (sym c.requires.found.0) c.ask_ready-ready.ensures)
+    subst (λ v. ReadyAt gives v.site v.generation b ready) (sym c.found.view_is)
+    (subst (λ n. ReadyAt gives c.args.found.now.site n b ready) (sym c.requires.found.1)
+    (subst (λ s. ReadyAt gives s c.args.reader.now.generation b ready) (sym c.requires.found.0) c.ask_ready-ready.ensures))

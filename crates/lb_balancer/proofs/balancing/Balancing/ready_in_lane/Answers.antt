@@ -1,0 +1,12 @@
+-- The word is of the balancer whose lane it is.
+use Rattle.std.proofs.Common.{◌∙◌}
+use Rattle.std.specs.Arc.{arc_value}
+use Rattle.lb_balancer.proofs.Kepts.{kept-of}
+use Rattle.lb_balancer.proofs.balancing.Balancing.ready_in_lane.Goals as goal
+
+pub returns-then-said-changes : goal.returns-then-said-changes
+returns-then-said-changes g c =
+    let kept = c.in_ok-kept.kept.now in
+    let is = kept-of g.R.KeyRule.gives c.in_ok-seen.seen.hand.tag c.args.self.now kept.shown kept.ready (c.in_ok-seen.ensures ∙ c.self.view_is)
+    c.in_ok-kept.ensures in
+    ((arc_value kept.shown).generation, c.in_ok-said.ensures c.args.self.now is)

@@ -1,0 +1,55 @@
+-- What words may say: what is said of a backend, at the place that one of its identity has; and nothing.
+use Rattle.std.proofs.Common.{◌≡◌, ◌∙◌, ℕ, Bool, true, false, List, Option, Some, None, replicate, zero, suc, ◌%◌, refl, sym, subst}
+use Rattle.std.specs.Prelude.{IfSome, slice_get, slice_index}
+use Rattle.lb_select_base.specs.Backends.{Member, same_member}
+use Rattle.lb_select_base.proofs.Turns.{same_equiv}
+use Rattle.lb_threads_core.specs.ReadyWords.{Says, SaysAt, said_as}
+
+-- a backend's place has one of its identity
+abbrev pub HasPlace : List (Option Member) → ℕ → Member → Type 0
+HasPlace marks i b = (m : Member) × (slice_get marks i ≡ Some (Some m)) × (same_member b m ≡ true)
+
+module _ (Told : Member → Bool → Type 0) (by_identity : (b m : Member) (a : Bool) → same_member b m ≡ true → Told m a → Told b a) where
+  says-same : (b m : Member) (w : ℕ) → same_member b m ≡ true → Says (Told m) w → Says (Told b) w
+  says-same b m w same says = λ a is. by_identity b m a same (says a is)
+
+  -- what is said of a backend may be the word at its place
+  pub says-at : (marks : List (Option Member)) (i w : ℕ) (b : Member) → HasPlace marks i b → Says (Told b) w → SaysAt Told marks i w
+  says-at marks i w b (m, at, same) says =
+      subst (λ o. IfSome o (λ p. IfSome p (λ q. Says (Told q) w))) (sym at)
+      (says-same m b w (same_equiv.symm m b ∙ same) says)
+
+zero-says : (a : Bool) (w : ℕ) → w ≡ 0 → w % 4 ≡ said_as a → ⊥
+zero-says true w none is = absurd (cc)
+zero-says false w none is = absurd (cc)
+
+said-once : (a b : Bool) → said_as a ≡ said_as b → b ≡ a
+said-once true true is = refl
+said-once false false is = refl
+said-once true false is = absurd (cc)
+said-once false true is = absurd (cc)
+
+-- the word that says so of this alone
+pub says-word : (Told : Bool → Type 0) (w : ℕ) (a : Bool) → w % 4 ≡ said_as a → Told a → Says Told w
+says-word Told w a is told = λ b other. subst Told (said-once b a (sym other ∙ is)) told
+
+-- a word of 0 says nothing, and so do words that aren't there
+nothing-said : (Told : Member → Bool → Type 0) (marks : List (Option Member)) (i w : ℕ) → w ≡ 0 → SaysAt Told marks i w
+nothing-said Told marks i w none = said (slice_get marks i)
+  where
+    said : (o : Option (Option Member)) → IfSome o (λ o. IfSome o (λ b. Says (Told b) w))
+    said None = tt
+    said (Some None) = tt
+    said (Some (Some b)) = λ a is. absurd (zero-says a w none is)
+
+-- each of so many numbers 0 is 0
+zero-at : (n i : ℕ) → slice_index (replicate n 0) i ≡ 0
+zero-at zero i = refl
+zero-at (suc n) zero = refl
+zero-at (suc n) (suc i) = zero-at n i
+
+-- words of 0 say nothing
+pub nothing-kept : (Told : Member → Bool → Type 0) (marks : List (Option Member)) (n : ℕ) (words : List ℕ) → words ≡ replicate n 0
+    → (i : ℕ) → SaysAt Told marks i (slice_index words i)
+nothing-kept Told marks n words are i =
+    nothing-said Told marks i (slice_index words i) (subst (λ (l : List ℕ). slice_index l i ≡ 0) (sym are) (zero-at n i))
