@@ -306,7 +306,7 @@ impl<W: Wait, S: BackendSelection> Subject for Calls<W, Balancer<S>> {
         let (rt, alloc) = (&self.site.rt, self.site.alloc);
         self.subject
             .backends()
-            .set_enable(rt, alloc, backend, false);
+            .set_enable(rt, backend, false);
     }
 
     fn make(&self, call: Call) -> Result<u64, Refusal> {

@@ -4,6 +4,7 @@
 
 mod chain;
 pub mod crc;
+mod divisor;
 mod fill;
 mod index;
 pub mod ketama;

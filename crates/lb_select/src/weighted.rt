@@ -13,6 +13,7 @@ ghost use Rattle.lb_select.specs.Sums.{AreSums, HasBinaryDigits};
 ghost use Rattle.lb_select.specs.Weights.{total_weight, weighted_refusal, HoldsPlace, IsFirstChoice, IsFallback};
 ghost use Rattle.lb_select.specs.Weights.{IsWeightedWalk, IsWeightedRest};
 
+use crate::divisor::Divisor;
 use crate::sums::{Sums, index_of_place};
 use lb_select_base::algorithms::FnvHasher;
 use lb_select_base::backend::Backend;
@@ -35,7 +36,7 @@ pub struct Weighted<H = FnvHasher> {
     backends: Vec<Backend>,
     // for each backend the sum of the weights up to it, its own among them
     sums: Sums,
-    total: u64,
+    total: Divisor,
     algorithm: H,
 }
 
@@ -126,7 +127,7 @@ impl<H: SelectionAlgorithm> Weighted<H> {
         Ok(Weighted {
             backends: list,
             sums,
-            total,
+            total: Divisor::new(total),
             algorithm: H::new(),
         })
     }
@@ -135,7 +136,7 @@ impl<H: SelectionAlgorithm> Weighted<H> {
     pub fn total(&self) -> u64
         ensures { result ≡ total_weight self.now }
     {
-        self.total
+        self.total.number()
     }
 
     /// Returns the index of the backend whose interval of partial sums contains a place below the total, and how many sums the search
@@ -171,12 +172,20 @@ impl<H: SelectionAlgorithm> Weighted<H> {
         self.backends.as_slice().get(index?)
     }
 
+    // The place of a word.
+    fn place_of(&self, word: u64) -> u64
+        requires { 0 < total_weight self.now }
+        ensures { result ≡ word % total_weight self.now }
+    {
+        self.total.rest_of(word)
+    }
+
     // The index of the first choice for a word.
     fn first_choice(&self, word: u64) -> usize
         requires { 0 < total_weight self.now }
         ensures { (m : Member) × (slice_get self.now result ≡ Some m) × IsFirstChoice self.now word m }
     {
-        self.locate(word % self.total()).index
+        self.locate(self.place_of(word)).index
     }
 
     // The index of the fallback for a word.

@@ -46,10 +46,7 @@ fn disables_meanwhile<R: Abort + Wait + Clock + Copy + Drop>(
 ) -> bool {
     let came = waited(rt, &bench.line.asked, 1);
     let first = at(rt, bench, "1.0.0.1:80");
-    bench
-        .balancer
-        .backends()
-        .set_enable(rt, bench.alloc, &first, false);
+    bench.balancer.backends().set_enable(rt, &first, false);
     bench.line.open.store(1, SeqCst);
     came
 }
