@@ -1,14 +1,20 @@
 //! Selections during updates and checks, in threads.
-use crate::balancer::fixtures::{Bench, GROWN, ROWS, is_second, waited};
+use crate::balancer::fixtures::{
+    Bench, GROWN, InTurn, ROWS, SecondDown, TestedRegistry, UP, is_second, waited,
+};
 use log::Log;
-use pingora_load_balancing::Backend;
+use pingora_load_balancing::health_check::{NoRule, Rule};
 use pingora_load_balancing::prelude::RoundRobin;
+use pingora_load_balancing::{Backend, BalancerReader, HealthRegistry};
 use std::process::Abort;
-use std::sync::Wait;
 use std::sync::atomic::Ordering::SeqCst;
+use std::sync::{Arc, Wait};
 use std::thread;
 use std::thread::Threads;
 use std::time::{Clock, Duration};
+
+// A reader of the balancer of the tests.
+type TestedReader<'b, R> = BalancerReader<'b, RoundRobin, InTurn<R>, Rule<NoRule>, SecondDown<R>>;
 
 // What three threads do together.
 #[derive(Clone, Copy, PartialEq, Eq)]
@@ -177,4 +183,63 @@ fn selections_go_on(rt: HostRuntime) {
     let seen = cases(&rt, &bench);
     let told = [(true, 1), (true, 301), (true, 301), (true, 302)];
     assert_eq!(rt; seen, (told, (false, true)));
+}
+
+// How often the second backend is selected in six turns, by the handle or by this reader.
+fn seconds<R: Abort + Wait + Clock + Copy + Drop>(
+    rt: &R,
+    bench: &Bench<RoundRobin, R>,
+    reader: &mut Option<TestedReader<'_, R>>,
+) -> u64 {
+    let mut count = 0u64;
+    for _ in 0..6 {
+        let found = match reader {
+            Some(reader) => reader
+                .select(rt, bench.alloc, b"k", 9)
+                .expect(rt, "refused"),
+            None => bench.select(rt, 9),
+        };
+        count = match found {
+            Some(backend) if is_second(&backend) => count.saturating_add(1),
+            _ => count,
+        };
+    }
+    count
+}
+
+// After a pass of the registry that finds the second backend up, then down, then up again: how often it is selected by the handle, and by a
+// reader that was there before.
+fn after_passes<R: Abort + Log + Threads + Wait + Clock + Copy + Send + Sync + Drop>(
+    rt: &R,
+    bench: &Bench<RoundRobin, R>,
+    registry: &TestedRegistry<R>,
+) -> [(u64, u64); 3] {
+    bench.update(rt, 1);
+    bench.set_check(rt);
+    let mut reader = Some(bench.balancer.reader(rt, bench.alloc).expect(rt, "refused"));
+    let mut seen = [(0, 0); 3];
+    for (place, answers) in [UP, ROWS, UP].into_iter().enumerate() {
+        bench.checks.begin(true, answers);
+        registry
+            .run_health_check(rt, bench.alloc, false)
+            .expect(rt, "refused");
+        if place < 3 {
+            seen[place] = (
+                seconds(rt, bench, &mut None),
+                seconds(rt, bench, &mut reader),
+            );
+        }
+    }
+    seen
+}
+
+// What a pass flips that another made, as a service of the registry does, each selection after it sees: by the handle and by a reader.
+#[test]
+fn passes_of_others_are_seen(rt: HostRuntime) {
+    let alloc = rt.alloc();
+    let registry = HealthRegistry::new(alloc).expect(&rt, "refused");
+    let registry = Arc::new(alloc, registry).expect(&rt, "refused");
+    let bench = Bench::over(&rt, alloc, &registry);
+    let seen = after_passes(&rt, &bench, &registry);
+    assert_eq!(rt; seen, [(2, 2), (0, 0), (2, 2)]);
 }

@@ -3,7 +3,9 @@ use crate::service_fixtures::Ticks;
 use pingora_load_balancing::discovery::{Discovered, DiscoverySource, ServiceDiscovery, Settings};
 use pingora_load_balancing::health_check::{CheckError, HealthCheck, NoRule, Rule};
 use pingora_load_balancing::selection::BackendSelection;
-use pingora_load_balancing::{Backend, Backends, InetAddr, LoadBalancer, Refusal, SocketAddr};
+use pingora_load_balancing::{
+    Backend, Backends, HealthRegistry, InetAddr, LoadBalancer, Refusal, SocketAddr,
+};
 use std::alloc::Global;
 use std::collections::BTreeSet;
 use std::process::Abort;
@@ -24,6 +26,9 @@ pub const HEAVY: u64 = 2;
 
 /// The word by which it answers its first row, and one more.
 pub const GROWN: u64 = 3;
+
+/// The word by which a check finds the second backend up.
+pub const UP: u64 = 4;
 
 /// A line between the test and what a balancer calls: how often that was called, whether it may answer, and what.
 #[derive(Drop)]
@@ -91,6 +96,15 @@ pub fn listed(alloc: Global, texts: &[&str]) -> Result<BTreeSet<Backend>, Refusa
     Ok(set)
 }
 
+// The discovery in turn, with this line.
+fn in_turn<R: Abort + Clock + Copy + Drop>(rt: &R, line: &Arc<Line>) -> DiscoverySource<InTurn<R>> {
+    DiscoverySource::Boxed(InTurn {
+        rt: *rt,
+        line: Arc::try_clone(line).expect(rt, "refused"),
+        turn: AtomicU64::new(0),
+    })
+}
+
 // Two backends whose weights are more than 64 bits hold.
 fn heavy(alloc: Global) -> Result<BTreeSet<Backend>, Refusal> {
     let mut set = listed(alloc, &["3.0.0.2:80"])?;
@@ -121,7 +135,7 @@ pub fn is_second(backend: &Backend) -> bool {
     }
 }
 
-/// A check that finds the second backend down.
+/// A check that finds the second backend down, but for what its line says.
 #[derive(Drop)]
 pub struct SecondDown<R> {
     rt: R,
@@ -133,7 +147,7 @@ impl<R: Clock> HealthCheck for SecondDown<R> {
 
     fn check(&self, _alloc: Global, target: &Backend) -> Result<(), CheckError> {
         self.line.call(&self.rt);
-        if is_second(target) {
+        if is_second(target) && self.line.answers.load(SeqCst) != UP {
             return Err(CheckError::Connect);
         }
         Ok(())
@@ -146,6 +160,9 @@ impl<R: Clock> HealthCheck for SecondDown<R> {
 
 /// The balancer of the tests.
 pub type Tested<S, R> = LoadBalancer<S, InTurn<R>, Rule<NoRule>, SecondDown<R>>;
+
+/// The registry that such balancers may share.
+pub type TestedRegistry<R> = HealthRegistry<Rule<NoRule>, SecondDown<R>>;
 
 /// A balancer, and the lines to its discovery and to its check, once that is set.
 #[derive(Drop)]
@@ -160,13 +177,25 @@ impl<S: BackendSelection, R: Abort + Wait + Clock + Copy + Drop> Bench<S, R> {
     /// Returns a balancer over the discovery in turn; nothing is found yet, and both lines are open.
     pub fn new(rt: &R, alloc: Global) -> Bench<S, R> {
         let line = Arc::new(alloc, Line::new()).expect(rt, "refused");
-        let discovery = InTurn {
-            rt: *rt,
-            line: Arc::try_clone(&line).expect(rt, "refused"),
-            turn: AtomicU64::new(0),
-        };
-        let discovery = DiscoverySource::Boxed(discovery);
-        let backends = Backends::new(rt, alloc, discovery).expect(rt, "refused");
+        let backends = Backends::new(rt, alloc, in_turn(rt, &line)).expect(rt, "refused");
+        Bench::of(rt, alloc, line, backends)
+    }
+
+    /// Returns the same, but in this registry.
+    pub fn over(rt: &R, alloc: Global, registry: &Arc<TestedRegistry<R>>) -> Bench<S, R> {
+        let line = Arc::new(alloc, Line::new()).expect(rt, "refused");
+        let shared = Arc::try_clone(registry).expect(rt, "refused");
+        let backends = Backends::new_with_health_registry(rt, alloc, in_turn(rt, &line), shared);
+        Bench::of(rt, alloc, line, backends.expect(rt, "refused"))
+    }
+
+    // The bench of these backends.
+    fn of(
+        rt: &R,
+        alloc: Global,
+        line: Arc<Line>,
+        backends: Backends<InTurn<R>, Rule<NoRule>, SecondDown<R>>,
+    ) -> Bench<S, R> {
         Bench {
             alloc,
             line,
