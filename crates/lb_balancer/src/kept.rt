@@ -24,11 +24,6 @@ use lb_threads_core::ready_words::Said;
 use std::alloc::{AllocError, Global};
 use std::sync::{Arc, Wait};
 
-// The numbers of FNV-1a of 64 bits.
-const BASIS: u64 = 0xcbf2_9ce4_8422_2325;
-
-const PRIME: u64 = 0x100_0000_01b3;
-
 /// What is shown, with words that say which of its members are ready now; without, where memory was refused for them.
 #[derive(Drop)]
 pub struct KeptShown<S: BackendSelection, D, R: KeyRule + Drop, C> {
@@ -120,15 +115,6 @@ impl<S: BackendSelection, D, R: KeyRule + Drop, C> KeptShown<S, D, R, C> {
             None => &[],
         }
     }
-}
-
-// The lane that a key's selections go to: keys spread over the lanes, so that threads seldom meet in one.
-pub(crate) fn hint_of(key: &[u8]) -> u64 {
-    let mut hash = BASIS;
-    for byte in key {
-        hash = (hash ^ u64::from(*byte)).wrapping_mul(PRIME);
-    }
-    hash ^ (hash >> 32)
 }
 
 impl<

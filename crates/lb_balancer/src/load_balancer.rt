@@ -10,7 +10,6 @@ ghost use Rattle.lb_balancer.specs.Shown.{ShownValue};
 ghost use Rattle.lb_balancer.specs.SharedUpdates.{IsSharedRefusal, IsSharedUpdated, ReadsUpdate};
 
 use crate::balancing::Balancing;
-use crate::kept::hint_of;
 use crate::shown::Shown;
 use lb_balancer_core::timings::UpdateTimings;
 use lb_health_core::health_check::{BoxedCheck, HealthCheck};
@@ -23,6 +22,7 @@ use lb_select_base::refusal::Refusal;
 use lb_select_base::walk::BackendSelection;
 use lb_threads_core::backends::Backends;
 use lb_threads_core::keyed::NoRule;
+use lb_threads_core::lanes::hint_of;
 use log::Log;
 use std::alloc::Global;
 use std::sync::{Arc, Wait};

@@ -3,6 +3,7 @@ ghost use Rattle.std.specs.Prelude.{◌≡◌, All, IfOk, IfSome, vec_len};
 
 use crate::generators::SharedGenerator;
 use crate::lane::{Lane, Seen, Unread};
+use crate::marks::SPREAD;
 use counted_slot::{FREE, Fits, PRESENT};
 use std::alloc::{AllocError, Global};
 
@@ -110,4 +111,21 @@ impl<X: Fits + Drop> Lanes<X> {
     {
         self.lanes.len()
     }
+}
+
+/// Returns the hint of a key, by its first and its last eight bytes: keys spread over the lanes, so that threads seldom meet in one.
+pub fn hint_of(key: &[u8]) -> u64 {
+    let ends = match (key.first_chunk::<8>(), key.last_chunk::<8>()) {
+        (Some(first), Some(last)) => {
+            u64::from_le_bytes(*first).rotate_left(23) ^ u64::from_le_bytes(*last)
+        }
+        _ => {
+            let mut word = 0u64;
+            for byte in key {
+                word = word << 8 | u64::from(*byte);
+            }
+            word
+        }
+    };
+    ends.wrapping_mul(SPREAD) >> 32
 }

@@ -7,8 +7,8 @@ use lb_select_base::backend::{Backend, Ext, InetAddr, SocketAddr};
 use std::alloc::{AllocError, Global};
 use std::collections::BTreeSet;
 
-// Spreads numbers that follow one another: 2^64 divided by the golden ratio.
-const SPREAD: u64 = 0x9E37_79B9_7F4A_7C15;
+/// Spreads numbers that follow one another: 2^64 divided by the golden ratio.
+pub(crate) const SPREAD: u64 = 0x9E37_79B9_7F4A_7C15;
 
 // How many places a backend may have.
 const LOOKS: usize = 16;

@@ -108,21 +108,6 @@ impl<S: BackendSelection, R: KeyRule + Drop, C> Drop for Entry<S, R, C> {
     }
 }
 
-// The lane that a key's selections go to: keys spread over the lanes, so that threads seldom meet in one.
-pub(crate) fn hint_of(key: &[u8]) -> u64 {
-    let word = match key.last_chunk::<8>() {
-        Some(bytes) => u64::from_le_bytes(*bytes),
-        None => {
-            let mut word = 0u64;
-            for byte in key {
-                word = word << 8 | u64::from(*byte);
-            }
-            word
-        }
-    };
-    word.wrapping_mul(0x9E37_79B9_7F4A_7C15) >> 32
-}
-
 impl<S: BackendSelection, R: KeyRule + Drop, C: HealthCheck + Drop> SharedGroup<S, R, C> {
     // The lanes of a slot.
     fn lanes_of(&self, slot: usize) -> Option<&SlotLanes<S, R, C>>

@@ -4,7 +4,7 @@ ghost use Rattle.lb_balancer_core.specs.Looks.{Answers, is_no_such};
 ghost use Rattle.lb_threads_group.specs.Kept.{IsEntry, SelectedFrom, SelectsUnder};
 
 use crate::group::SharedGroup;
-use crate::kept::{Entry, hint_of};
+use crate::kept::Entry;
 use crate::port::LockedPort;
 use lb_balancer_core::select::select_for;
 use lb_health_core::health_check::HealthCheck;
@@ -14,6 +14,7 @@ use lb_select_base::backend::Backend;
 use lb_select_base::refusal::Refusal;
 use lb_select_base::walk::BackendSelection;
 use lb_threads_core::lane::Seen;
+use lb_threads_core::lanes::hint_of;
 use std::alloc::Global;
 use std::sync::Wait;
 use std::sync::atomic::Ordering::SeqCst;
