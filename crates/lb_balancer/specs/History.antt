@@ -51,8 +51,8 @@ module _ {D C R : Type 0} (b : BalancerValue D C R) where
   UnderServing Call = (s : ServingValue C) × ((t : ServingValue C) × (IsServedBy s × (IsServedBy t × Call s t)))
 
 module _ {R : Type 0} (gives : R → Member → Member → Type 0) {D C : Type 0} (b : BalancerValue D C R) where
-  -- whether a backend was ready in the membership of a generation, at some state of what the balancer serves, which was this generation, and
-  -- of its registry
+  -- whether a backend was ready in the membership of a generation, at some state of what the balancer serves, which was this generation,
+  -- and of its registry
   abbrev pub JudgedIn : ℕ → Member → Bool → Type 0
   JudgedIn n m ready =
       (s : ServingValue C) × (IsServedBy b s

@@ -1,5 +1,5 @@
-//! Readiness at the moment when a selection asks for it: the word of its candidate says it, and where that isn't of now, view and registry do,
-//! under their locks. So a flip or a flag costs each backend one question, whoever made it.
+//! Readiness at the moment when a selection asks for it: the word of its candidate says it, and where that isn't of now, view and registry
+//! do, under their locks. So a flip or a flag costs each backend one question, whoever made it.
 ghost use Rattle.std.specs.Prelude.{◌≡◌, IfErr, IfSome, OnOk};
 ghost use Rattle.std.specs.Arc.{arc_value};
 ghost use Rattle.lb_rebuild_core.specs.GroupCalls.{AcceptsBy};

@@ -1,6 +1,6 @@
-//! Which backends are ready, as words that threads share: one for each backend, which says whether it is ready and as of which change that was
-//! found. A selection loads the word of its candidate, and asks where something changed since; so a flip or a flag costs each backend one
-//! question, and no request copies a membership.
+//! Which backends are ready, as words that threads share: one for each backend, which says whether it is ready and as of which change that
+//! was found. A selection loads the word of its candidate, and asks where something changed since; so a flip or a flag costs each backend
+//! one question, and no request copies a membership.
 ghost use Rattle.std.specs.Prelude.{◌≡◌, ◌%◌, Bool, IfOk, IfSome, true};
 ghost use Rattle.lb_select_base.specs.Backends.{Member, same_member};
 ghost use Rattle.lb_threads_core.specs.ReadyWords.{said_as};

@@ -7,6 +7,6 @@ use Rattle.lb_balancer.proofs.balancing.Balancing.ready_in_lane.Goals as goal
 pub returns-then-said-changes : goal.returns-then-said-changes
 returns-then-said-changes g c =
     let kept = c.in_ok-kept.kept.now in
-    let is = kept-of g.R.KeyRule.gives c.in_ok-seen.seen.hand.tag c.args.self.now kept.shown kept.ready (c.in_ok-seen.ensures ∙ c.self.view_is)
-    c.in_ok-kept.ensures in
+    let same = c.in_ok-seen.ensures ∙ c.self.view_is in
+    let is = kept-of g.R.KeyRule.gives c.in_ok-seen.seen.hand.tag c.args.self.now kept.shown kept.ready same c.in_ok-kept.ensures in
     ((arc_value kept.shown).generation, c.in_ok-said.ensures c.args.self.now is)

@@ -17,5 +17,6 @@ returns-clause-answers g c =
     × SelectsFrom gives b (AcceptsBy g.F.Fn c.args.accept.now) c.args.max_iterations g.S.BackendSelection.walks c.args.key.now x
     c.select_kept.result in
     let kept = c.in_ok-kept.kept.now in
-    let is = kept-of gives c.in_ok-seen.seen.hand.tag b kept.shown kept.ready (c.in_ok-seen.ensures ∙ c.self.view_is) c.in_ok-kept.ensures in
+    let same = c.in_ok-seen.ensures ∙ c.self.view_is in
+    let is = kept-of gives c.in_ok-seen.seen.hand.tag b kept.shown kept.ready same c.in_ok-kept.ensures in
     if-answered c.select_kept.result Found (arc_value kept.shown, is.0, c.select_kept.ensures.answers)

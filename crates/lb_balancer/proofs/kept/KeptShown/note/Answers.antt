@@ -10,7 +10,6 @@ pub note-requires : goal.note-requires
 note-requires g c =
     let Words = GenerationValue g.row.D.Denot g.row.S-Config.Denot g.row.R.Denot in
     let gives = g.R.KeyRule.gives in
-    let at = subst (λ o. IfSome o (λ r. JudgedIn gives (arc_value {X = Words} r).balancer (arc_value {X = Words} r).number c.args.backend.now
-    c.args.said.ready))
-    c.in-Some.is c.requires in
-    subst (λ (v : Words). JudgedIn gives v.balancer v.number c.args.backend.now c.args.said.ready) (sym (c.words.ensures ∙ c.deref.ensures)) at
+    let Judged = λ (v : Words). JudgedIn gives v.balancer v.number c.args.backend.now c.args.said.ready in
+    let at = subst (λ o. IfSome o (λ r. Judged (arc_value {X = Words} r))) c.in-Some.is c.requires in
+    subst Judged (sym (c.words.ensures ∙ c.deref.ensures)) at
