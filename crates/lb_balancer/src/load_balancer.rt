@@ -145,7 +145,7 @@ impl<
 
     /// Returns the first ready backend among the distinct of the first `max_iterations` candidates for `key`, or `None`.
     ///
-    /// The candidates and their readiness are those of what is served now. Refused for memory alone.
+    /// The candidates are those of what is served now, and each is judged when it is looked at. Refused for memory alone.
     pub fn select<W: Wait>(
         &self,
         rt: &W,
