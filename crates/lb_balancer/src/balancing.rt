@@ -64,6 +64,9 @@ type ShownLock<S, D, R, C> = KeyedLock<
 
 type GenerationNumber<S, D, R, C> = KeyedNumbers<Snapshot<Origin<S, D, R, C>>, OfGeneration>;
 
+// What the count of changes is at least once the balancer left its registry.
+pub(crate) const LEFT: u64 = 0x8000_0000_0000_0000;
+
 // The number of lanes: as many as threads that select at once may want, a power of two.
 const LANES: usize = 64;
 
@@ -582,6 +585,7 @@ impl<
         held.value.leave(&mut cells.value);
         put_registry(registries, cells);
         self.serving.put(held);
+        self.changes.fetch_or(LEFT, SeqCst);
     }
 
     /// Sets the check of the registry.

@@ -7,7 +7,7 @@ ghost use Rattle.lb_balancer.specs.History.{JudgedBy, JudgedIn};
 ghost use Rattle.lb_balancer.specs.Kept.{IsKept};
 ghost use Rattle.lb_balancer.specs.Selections.{IsReadyIn, SelectsFrom};
 
-use crate::balancing::Balancing;
+use crate::balancing::{Balancing, LEFT};
 use crate::kept::KeptShown;
 use crate::shown::Shown;
 use lb_health_core::health_check::HealthCheck;
@@ -29,10 +29,14 @@ impl<
     R: KeyRule + Drop,
     C: HealthCheck + Drop,
 > Balancing<S, D, R, C> {
-    // How often what is ready may have changed.
+    // How often what is ready may have changed; of a balancer that left its registry, a count that no word has, since others' calls may
+    // then remove its cells.
     pub(crate) fn changes_so_far(&self) -> u64 {
-        let registry = self.origin.registry().changes();
-        self.changes.load(SeqCst).wrapping_add(registry) % CHANGES
+        let own = self.changes.load(SeqCst);
+        if own >= LEFT {
+            return CHANGES;
+        }
+        own.wrapping_add(self.origin.registry().changes()) % CHANGES
     }
 
     // Whether a backend is ready for selections in what is kept, by its word where that is of now. Where another generation is served

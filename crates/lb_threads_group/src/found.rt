@@ -199,8 +199,12 @@ impl<S: BackendSelection, R: KeyRule + Drop, C> SharedGroup<S, R, C> {
 }
 
 impl<S: BackendSelection, R: KeyRule + Drop, C: HealthCheck + Drop> SharedGroup<S, R, C> {
-    // How often what is ready may have changed.
+    // How often what is ready may have changed; of a group that is cancelled or dropped, a count that no word has, since others' calls may
+    // then remove its cells.
     pub(crate) fn changes_so_far(&self) -> u64 {
+        if self.marks.is_closed.load(SeqCst) {
+            return CHANGES;
+        }
         let registry = self.registry.changes();
         self.marks.changes.load(SeqCst).wrapping_add(registry) % CHANGES
     }
