@@ -17,8 +17,7 @@ ghost use Rattle.lb_balancer_group.specs.Made.{IsGateRefusal, IsNewGroup, slot_c
 
 use crate::configured::{Configured, SlotConfig};
 use crate::gate_refusal::GateRefusal;
-use crate::making::{configs_of, first_cause, opened, own_gate, update_noting};
-use crate::noting::Noting;
+use crate::making::{configs_of, first_cause, opened, own_gate};
 use lb_balancer_core::timings::{SelectorUpdateTimings, UpdateTimings};
 use lb_health_core::health_check::{BoxedCheck, HealthCheck};
 use lb_health_core::keys::{KeyRule, Rule};
@@ -36,7 +35,7 @@ use lb_threads_core::owner::ViewOwner;
 use lb_threads_core::registry::HealthRegistry;
 use lb_threads_group::group::SharedGroup;
 use std::alloc::Global;
-use std::sync::{Arc, Mutex, Wait};
+use std::sync::{Arc, Wait};
 
 /// A group of slots, each of which serves a selector of its own. Its frequencies are set before threads share it.
 ///
@@ -56,9 +55,6 @@ pub struct LoadBalancerGroup<
     configs: Vec<SlotConfig<S>>,
     pub(crate) shared: Arc<SharedGroup<Configured<S>, R, C>>,
     view: ViewOwner,
-    // Held by an update to its end, so that the timing is that of the last one.
-    updates: Mutex<()>,
-    pub(crate) timing: Mutex<Option<UpdateTimings>>,
     /// How often checks run, in nanoseconds; once where it is `None`.
     pub health_check_frequency: Option<u128>,
     /// How often backends are discovered, in nanoseconds; once where it is `None`.
@@ -77,8 +73,6 @@ impl<S: BackendSelection, D: Drop, R: KeyRule + Drop, C: HealthCheck + Drop> Dro
             configs: _,
             shared,
             view: _,
-            updates: _,
-            timing: _,
             health_check_frequency: _,
             update_frequency: _,
             parallel_health_check: _,
@@ -141,8 +135,6 @@ impl<
             configs,
             shared,
             view,
-            updates: Mutex::new(()),
-            timing: Mutex::new(None),
             health_check_frequency: None,
             update_frequency: None,
             parallel_health_check: false,
@@ -186,7 +178,6 @@ impl<
         self.shared.let_go();
         self.shared = shared;
         self.view = view;
-        self.timing = Mutex::new(None);
         Ok(())
     }
 
@@ -205,21 +196,8 @@ impl<
     ) -> Result<u64, Refusal>
         ensures { UpdatedUnder R.gives K.reads (FoundBy D.finds) self.now.discovery clock.old (arc_value self.now.shared) result clock.new }
     {
-        let turn = self.updates.lock(rt);
-        let mut noting = Noting {
-            clock,
-            first: None,
-            last: 0,
-        };
-        let told = update_noting(rt, alloc, &*self.shared, &self.discovery, &mut noting);
-        if told.is_ok() {
-            *self.timing.lock(rt) = Some(UpdateTimings {
-                discovery_duration: noting.passed(),
-                build_duration: 0,
-            });
-        }
-        drop(turn);
-        told
+        let shared: &SharedGroup<Configured<S>, R, C> = &*self.shared;
+        shared.update(rt, alloc, &self.discovery, clock)
     }
 
     /// Returns the first ready backend among the distinct of the first `max_iterations` candidates of what the slot serves, or `None`.

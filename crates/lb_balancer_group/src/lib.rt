@@ -7,7 +7,6 @@ pub mod configured;
 pub mod gate_refusal;
 pub mod group;
 mod making;
-mod noting;
 mod passes;
 pub mod reader;
 mod readings;

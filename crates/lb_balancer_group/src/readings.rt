@@ -127,6 +127,7 @@ impl<
 
     /// Returns how long the last accepted update took; `None` before the first.
     pub fn last_update_timing<W: Wait>(&self, rt: &W) -> Option<UpdateTimings> {
-        *self.timing.lock(rt)
+        let shared: &SharedGroup<Configured<S>, R, C> = &*self.shared;
+        shared.last_update_timing(rt)
     }
 }

@@ -7,8 +7,10 @@ ghost use Rattle.lb_threads_group.specs.Shared.{IsSame};
 
 use crate::found::{SlotWords, WordsLock};
 use crate::kept::{Site, SlotLanes};
+use crate::noting::Noting;
 use crate::numbers::{GroupNumbers, numbers_of};
 use crate::port::LockedPort;
+use lb_balancer_core::timings::UpdateTimings;
 use lb_balancer_core::update::update_through;
 use lb_health_core::health_check::{BoxedCheck, HealthCheck};
 use lb_health_core::keys::{KeyRule, Rule};
@@ -81,8 +83,9 @@ pub struct SharedGroup<S: BackendSelection, R: KeyRule + Drop = Rule<NoRule>, C 
     pub(crate) registry: Arc<HealthRegistry<R, C>>,
     pub(crate) gate: Arc<SelectorRebuildGate>,
     pub(crate) loads: SharedLoads,
-    // Held by an update from its discovery to its membership.
+    // Held by an update from its discovery to its end, so that the timing is that of the last one.
     updates: Mutex<()>,
+    timing: Mutex<Option<UpdateTimings>>,
     lines: Vec<SlotCounters>,
     pub(crate) marks: Marks,
     // Whose readers the lanes have, and the lanes of each slot.
@@ -107,6 +110,7 @@ impl<S: BackendSelection, R: KeyRule + Drop, C: Drop> Drop for SharedGroup<S, R,
             gate: _,
             loads: _,
             updates: _,
+            timing: _,
             lines: _,
             marks: _,
             site: _,
@@ -184,6 +188,7 @@ impl<S: BackendSelection, R: KeyRule + Drop, C: HealthCheck + Drop> SharedGroup<
             gate,
             loads: SharedLoads::new(alloc),
             updates: Mutex::new(()),
+            timing: Mutex::new(None),
             lines,
             marks: Marks {
                 let_go: AtomicBool::new(false),
@@ -336,15 +341,47 @@ impl<S: BackendSelection, R: KeyRule + Drop, C: HealthCheck + Drop> SharedGroup<
         ensures { UpdatedUnder R.gives K.reads D.finds discovery.now clock.old self.now result clock.new }
     {
         let turn = self.updates.lock(rt);
+        let mut noting = Noting {
+            clock,
+            first: None,
+            last: 0,
+        };
+        let told = self.update_noting(rt, alloc, discovery, &mut noting);
+        if told.is_ok() {
+            *self.timing.lock(rt) = Some(UpdateTimings {
+                discovery_duration: noting.passed(),
+                build_duration: 0,
+            });
+        }
+        drop(turn);
+        told
+    }
+
+    // Updates by a clock that notes its readings, which are those of the clock that it borrows.
+    fn update_noting<'c, W: Wait, D: ServiceDiscovery, K: MomentSource>(
+        &self,
+        rt: &W,
+        alloc: Global,
+        discovery: &D,
+        noting: &mut Noting<'c, K>,
+    ) -> Result<u64, Refusal>
+        ensures updated { UpdatedUnder R.gives K.reads D.finds discovery.now noting.old.clock.now self.now result noting.new.clock.now }
+        ensures same_reference { noting.new.clock.ghost_name ≡ noting.old.clock.ghost_name }
+    {
         let mut port = LockedPort {
             group: self,
             rt,
             found: self.no_words(),
             lane: 0,
         };
-        let told = update_on(alloc, &mut port, discovery, clock);
-        drop(turn);
-        told
+        update_on(alloc, &mut port, discovery, noting)
+    }
+
+    /// Returns how long the last accepted update took, from its first reading of the clock to its last one; `None` before the first.
+    ///
+    /// It doesn't wait for an update that is under way.
+    pub fn last_update_timing<W: Wait>(&self, rt: &W) -> Option<UpdateTimings> {
+        *self.timing.lock(rt)
     }
 
     // The next random word of a slot's lane.
