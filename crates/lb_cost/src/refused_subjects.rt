@@ -304,9 +304,7 @@ impl<W: Wait, S: BackendSelection> Subject for Calls<W, Balancer<S>> {
 
     fn disable(&self, backend: &Backend) {
         let (rt, alloc) = (&self.site.rt, self.site.alloc);
-        self.subject
-            .backends()
-            .set_enable(rt, backend, false);
+        self.subject.backends().set_enable(rt, backend, false);
     }
 
     fn make(&self, call: Call) -> Result<u64, Refusal> {
