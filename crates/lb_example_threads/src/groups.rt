@@ -1,7 +1,5 @@
 //! Two groups over one registry of health and one gate. A service checks their servers in the background, and workers build their
 //! selectors. A server that both groups have stops, and comes back.
-#![tactic(auto)]
-
 use log::Log;
 use pingora_load_balancing::background::{
     HealthCheckService, RuntimeClock, ShutdownSignal, ShutdownWatch, shutdown_pair,
@@ -12,7 +10,7 @@ use pingora_load_balancing::selection::RoundRobin;
 use pingora_load_balancing::{Backends, HealthRegistry, LoadBalancerGroup, SelectorRebuildGate};
 use std::alloc::Global;
 use std::collections::BTreeSet;
-use std::net::{Net, OpenListener, TcpListener};
+use std::net::{Net, OpenListener, TcpListener, TcpStream};
 use std::sync::{Arc, Wait};
 use std::thread::{self, Threads};
 use std::time::{Clock, Duration};
@@ -137,7 +135,22 @@ where
     Ok(())
 }
 
-fn main(rt: HostRuntime) -> Result<(), anyhow::Error> {
+/// Runs two groups that have one server in common, which stops and comes back.
+pub fn run<R>(rt: R) -> Result<(), anyhow::Error>
+where
+    R: Log
+        + Net<Stream = TcpStream>
+        + Threads
+        + Wait
+        + Clock
+        + Print
+        + AllocGlobal
+        + Copy
+        + Send
+        + Sync
+        + Drop
+        + 'static,
+{
     let alloc = rt.alloc();
     let first = TcpListener::bind(&rt, "127.0.0.1:0")?;
     let both = TcpListener::bind(&rt, "127.0.0.1:0")?;
@@ -147,7 +160,7 @@ fn main(rt: HostRuntime) -> Result<(), anyhow::Error> {
     let last_text = format!(in alloc; "{}", last.local_addr()?)?;
     let (mut signal, watch) = shutdown_pair(alloc)?;
     let gate = Arc::new(alloc, SelectorRebuildGate::new(alloc)?)?;
-    let registry: Registry<TcpHealthCheck<HostRuntime>> = HealthRegistry::new(alloc)?;
+    let registry: Registry<TcpHealthCheck<R>> = HealthRegistry::new(alloc)?;
     let registry = Arc::new(alloc, registry)?;
     registry.set_health_check(&rt, TcpHealthCheck::new(rt))?;
     let mut service = HealthCheckService::new(Arc::try_clone(&registry)?);
