@@ -1,27 +1,25 @@
 -- The plain group as a port: each call is that of the group, with its registry and its gate, and the words are those of its slots.
 -- Each call is stated by a history of the group; what is owned is so after some history of it.
 use Rattle.std.specs.Prelude.{◌≡◌, ℕ, Bool, true, false, List, ◌∷◌, ◌++◌, Some, Result, Ok, slice_get}
-use Rattle.std.specs.Prelude.{[], ◌≤◌, ◌^◌, OnOk, OnErr, IsErrOf, IsTrue, ◌↔◌, None, Err}
+use Rattle.std.specs.Prelude.{[], IsTrue, ◌↔◌}
 use Rattle.rand_core.specs.Stream.{Stream, next_u64}
 use Rattle.lb_select_base.specs.Backends.{Member}
 use Rattle.lb_select_base.specs.Draws as draws
 use Rattle.lb_select_base.specs.Draws.{Draw}
 use Rattle.lb_select_base.specs.declared.refusal.Refusal.{Refusal}
-use Rattle.lb_select_base.specs.declared.refusal.Refusal.TheVariants as refusal
 use Rattle.lb_rebuild_core.specs.Gate.{GateValue, gate}
 use Rattle.lb_health_core.specs.Registry.{RegistryValue, IsRegistryAfter}
-use Rattle.lb_health_core.specs.RegistryEvents.{Event, Applied, Updated, cells_given, has_view, views_after}
+use Rattle.lb_health_core.specs.RegistryEvents.{Event}
 use Rattle.lb_rebuild_core.specs.SlotsCalls as slots
 use Rattle.lb_rebuild_core.specs.SlotsCalls.{Asks, ask_events, gate_after, publish_events, done_at, ticket_events, is_awaited}
-use Rattle.lb_rebuild_core.specs.SlotsCalls.{is_owed, is_read, is_change, schedule_refusal}
+use Rattle.lb_rebuild_core.specs.SlotsCalls.{is_owed, is_read}
 use Rattle.lb_rebuild_core.specs.SlotsHistory as core
 use Rattle.lb_rebuild_core.specs.Stands.{Made}
 use Rattle.lb_rebuild_core.specs.Values.{Task, BuiltValue, RetiredValue, PermitValue, ReaderValue, configs_of}
 use Rattle.lb_rebuild_core.specs.declared.answers.Ask.{Ask}
 use Rattle.lb_rebuild_core.specs.declared.answers.Publication.{Publication}
-use Rattle.lb_rebuild_core.specs.declared.membership.Scheduled.{Scheduled}
-use Rattle.lb_health_view.specs.RegistrySide.{registry_updated, registry_released, IsReady}
-use Rattle.lb_rebuild_core.specs.GroupCalls.{Schedules, after_schedule, generation_at}
+use Rattle.lb_health_view.specs.RegistrySide.{registry_released, IsReady}
+use Rattle.lb_rebuild_core.specs.GroupCalls.{generation_at}
 use Rattle.lb_rebuild_core.specs.GroupHistory.{History, slot_events, in_group}
 use Rattle.lb_rebuild_core.specs.GroupStates.{GroupValue, Stands, After, Becomes, SameSite, views_of}
 
@@ -105,28 +103,3 @@ module _ {C R : Type 0} (gives : R → Member → Member → Type 0) where
   IsReadyFor v x r b a =
       (key_of : Member → Member) (events : List Event) → IsRegistryAfter gives key_of events x
       → After v (λ made e. IsTrue a ↔ IsReady key_of (views_of made e) events r.generation b)
-
-  -- A membership, as the group's own call states it.
-  abbrev pub IsScheduled : GroupValue C → RegistryValue R → List Member → List (Member × Bool) → ℕ → Result Scheduled Refusal
-      → GroupValue C → RegistryValue R → Type 0
-  IsScheduled v x members settings now r w y =
-      After v (λ made e. Schedules made e members r)
-      × OnOk r ((key_of : Member → Member) (events : List Event) → IsRegistryAfter gives key_of events x
-      → After v (λ made e. Stands made (after_schedule key_of v.view.id members settings now events e) w))
-      × OnOk r ((key_of : Member → Member) (events : List Event) → IsRegistryAfter gives key_of events x
-      → After v (λ made e. IsRegistryAfter gives key_of (registry_updated key_of v.view.id members (views_of made e) events) y))
-      × OnErr r (After v (λ made e. Stands made e w))
-      × OnErr r ((key_of : Member → Member) (events : List Event) → IsRegistryAfter gives key_of events x
-      → IsRegistryAfter gives key_of events y)
-      × (IsErrOf r refusal.NoSuch → (key_of : Member → Member) (events : List Event) → IsRegistryAfter gives key_of events x
-      → has_view v.view.id (views_after events) ≡ false)
-      × (IsErrOf r refusal.NumbersExhausted → (key_of : Member → Member) (events : List Event) → IsRegistryAfter gives key_of events x
-      → 2 ^ 64 ≤ cells_given key_of (Updated v.view.id members ∷ Applied ∷ events))
-      × ((key_of : Member → Member) (events : List Event) → IsRegistryAfter gives key_of events x
-      → After v (λ made e. schedule_refusal members (slot_events e) ≡ None → is_change members (slot_events e) ≡ true
-      → has_view v.view.id (views_after events) ≡ false → r ≡ Err refusal.NoSuch))
-      × ((key_of : Member → Member) (events : List Event) → IsRegistryAfter gives key_of events x
-      → After v (λ made e. schedule_refusal members (slot_events e) ≡ None → is_change members (slot_events e) ≡ true
-      → has_view v.view.id (views_after events) ≡ true → 2 ^ 64 ≤ cells_given key_of (Updated v.view.id members ∷ Applied ∷ events)
-      → r ≡ Err refusal.NumbersExhausted))
-      × SameSite v w

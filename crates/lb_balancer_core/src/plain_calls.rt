@@ -2,10 +2,11 @@
 //! turn over it, at a slot that is due.
 ghost use Rattle.std.specs.Prelude.{◌≡◌, ◌<◌, true, length};
 ghost use Rattle.lb_select_base.specs.Loads.{load_in};
-ghost use Rattle.lb_balancer_core.specs.Plain.{OwnsJob, OwnsReader, OwnsPermit, IsScheduled, IsAsked, IsEntered, IsReadyFor, IsDrawn};
+ghost use Rattle.lb_balancer_core.specs.Plain.{OwnsJob, OwnsReader, OwnsPermit, IsAsked, IsEntered, IsReadyFor, IsDrawn};
 ghost use Rattle.lb_balancer_core.specs.Lent.{SameLent};
 ghost use Rattle.lb_balancer_core.specs.Plain.{IsTaken, IsReported, IsFailed, IsPublished, IsLeft};
 ghost use Rattle.std.proofs.Common.{subst, sym};
+ghost use Rattle.lb_rebuild_core.specs.GroupCalls.{IsScheduled};
 ghost use Rattle.lb_rebuild_core.specs.GroupHistory.{slot_events};
 ghost use Rattle.lb_rebuild_core.specs.GroupStates.{After};
 ghost use Rattle.lb_rebuild_core.specs.SlotsHistory.{extra, is_extra, past_of};

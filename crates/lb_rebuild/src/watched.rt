@@ -1,22 +1,19 @@
 //! A group with the pass that writes its board, as one value under the group's lock. A membership that is another one and a publication
 //! raise one word each, inside the call that makes them; no other call does.
-ghost use Rattle.std.specs.Prelude.{◌≡◌, ◌≤◌, ◌+◌, ◌^◌, ◌∷◌, ◌++◌, [], List, true, false, None, Ok, Err};
-ghost use Rattle.std.specs.Prelude.{IfOk, IfErr, OnOk, OnErr, IsErrOf, slice_get, length, replicate};
+ghost use Rattle.std.specs.Prelude.{◌≡◌, ◌+◌, ◌∷◌, ◌++◌, [], List, None, Ok, Err};
+ghost use Rattle.std.specs.Prelude.{IfOk, IfErr, slice_get, length, replicate};
 ghost use Rattle.std.specs.Arc.{arc_value};
 ghost use Rattle.lb_select_base.specs.Backends.{Member};
 ghost use Rattle.lb_rebuild_core.specs.SlotsHistory.{Cancelled, WorkerLost, Entered, Left, TakenOut, Destroyed};
 ghost use Rattle.lb_rebuild_core.specs.Values.{configs_of};
-ghost use Rattle.lb_rebuild_core.specs.Stands.{StandsFor};
 ghost use Rattle.lb_rebuild_core.specs.SlotsCalls.{IsOwnJob, Asks, ask_events, gate_after, Fails, fail_events, gate_back, Publishes};
 ghost use Rattle.lb_rebuild_core.specs.SlotsCalls.{publish_events, Abandons, abandon_events, Unless, lose_refusal, done_at, Enters};
 ghost use Rattle.lb_rebuild_core.specs.SlotsCalls.{Leaves};
-ghost use Rattle.lb_rebuild_core.specs.SlotsCalls.{is_change, schedule_events, schedule_refusal};
 ghost use Rattle.lb_rebuild_core.specs.SlotsCalls.{Takes, Reports, IsTicket, ticket_events};
-ghost use Rattle.lb_health_view.specs.RegistrySide.{settings_of, registry_updated};
+ghost use Rattle.lb_health_view.specs.RegistrySide.{settings_of};
 ghost use Rattle.lb_health_core.specs.Registry.{IsRegistryAfter};
-ghost use Rattle.lb_health_core.specs.RegistryEvents.{Event, Applied, Updated, Marked, views_after, has_view};
-ghost use Rattle.lb_health_core.specs.RegistryEvents.{cells_given};
-ghost use Rattle.lb_rebuild_core.specs.GroupCalls.{Schedules, after_schedule, released_where, generation_at};
+ghost use Rattle.lb_health_core.specs.RegistryEvents.{Event, Marked};
+ghost use Rattle.lb_rebuild_core.specs.GroupCalls.{IsScheduled, released_where, generation_at};
 ghost use Rattle.lb_rebuild_core.specs.GroupHistory.{Set, slot_events, in_group};
 ghost use Rattle.lb_rebuild_core.specs.GroupStates.{Stands, After, Becomes, IsFounded, SameSite, views_of};
 ghost use Rattle.lb_rebuild.specs.Watched.{words_of, schedule_steps, publish_steps};
@@ -150,39 +147,10 @@ impl<S: BackendSelection> Watched<S> {
         now: u128,
     ) -> Result<Scheduled, Refusal>
         requires registry { registry.old.id ≡ self.old.core.registry }
-        ensures answers { After self.old.core (λ made e. Schedules made e discovered.keys result) }
-        ensures stands { OnOk result ((key_of : Member → Member) (events : List Event)
-            → IsRegistryAfter R.gives key_of events registry.old
-            → After self.old.core (λ made e. Stands made
-            (after_schedule key_of self.old.core.view.id discovered.keys (settings_of settings.entries) now events e) self.new.core)) }
-        ensures group { IfOk result (λ s. After self.old.core (λ made e. StandsFor made
-            (schedule_events discovered.keys now (Ok s) ++ slot_events e) self.new.core.group)) }
-        ensures registry { OnOk result ((key_of : Member → Member) (events : List Event)
-            → IsRegistryAfter R.gives key_of events registry.old
-            → After self.old.core (λ made e. IsRegistryAfter R.gives key_of
-            (registry_updated key_of self.old.core.view.id discovered.keys (views_of made e) events) registry.new)) }
-        ensures err { OnErr result (After self.old.core (λ made e. Stands made e self.new.core)) }
-        ensures registry_err { OnErr result ((key_of : Member → Member) (events : List Event)
-            → IsRegistryAfter R.gives key_of events registry.old
-            → IsRegistryAfter R.gives key_of events registry.new) }
-        ensures unknown { IsErrOf result Refusal.NoSuch → (key_of : Member → Member) (events : List Event)
-            → IsRegistryAfter R.gives key_of events registry.old → has_view self.old.core.view.id (views_after events) ≡ false }
-        ensures numbers { IsErrOf result Refusal.NumbersExhausted → (key_of : Member → Member) (events : List Event)
-            → IsRegistryAfter R.gives key_of events registry.old
-            → 2 ^ 64 ≤ cells_given key_of (Updated self.old.core.view.id discovered.keys ∷ Applied ∷ events) }
-        ensures missing { (key_of : Member → Member) (events : List Event) → IsRegistryAfter R.gives key_of events registry.old
-            → After self.old.core (λ made e. schedule_refusal discovered.keys (slot_events e) ≡ None
-            → is_change discovered.keys (slot_events e) ≡ true → has_view self.old.core.view.id (views_after events) ≡ false
-            → result ≡ Err Refusal.NoSuch) }
-        ensures lacking { (key_of : Member → Member) (events : List Event) → IsRegistryAfter R.gives key_of events registry.old
-            → After self.old.core (λ made e. schedule_refusal discovered.keys (slot_events e) ≡ None
-            → is_change discovered.keys (slot_events e) ≡ true → has_view self.old.core.view.id (views_after events) ≡ true
-            → 2 ^ 64 ≤ cells_given key_of (Updated self.old.core.view.id discovered.keys ∷ Applied ∷ events)
-            → result ≡ Err Refusal.NumbersExhausted) }
-        ensures site { SameSite self.old.core self.new.core }
+        ensures scheduled { IsScheduled R.gives self.old.core registry.old discovered.keys (settings_of settings.entries) now result
+            self.new.core registry.new }
         ensures board { self.new.board ≡ self.old.board }
         ensures steps { self.new.steps ≡ self.old.steps + schedule_steps result }
-        ensures one_registry { registry.new.id ≡ registry.old.id }
     {
         self.core.past();
         let scheduled = self

@@ -1,5 +1,6 @@
 -- What the calls of a joined group answer, apart from what the group's own calls do, and what they do to the registry.
-use Rattle.std.specs.Prelude.{◌≡◌, ◌⊎◌, ◌↔◌, ℕ, Bool, true, IsTrue, List, ◌∷◌, ◌++◌, Option, Some, None, Result, Ok, Err, if◌then◌else◌}
+use Rattle.std.specs.Prelude.{◌≡◌, ◌⊎◌, ◌↔◌, ◌^◌, ◌≤◌, ℕ, Bool, true, false, IsTrue, List, ◌∷◌, ◌++◌, Option, Some, None, if◌then◌else◌}
+use Rattle.std.specs.Prelude.{Result, Ok, Err, IfOk, IsErrOf, OnErr, OnOk}
 use Rattle.std.specs.Borrow.{Bor}
 use Rattle.std.specs.Fn.{Shared, FnReturns}
 use Rattle.lb_select_base.specs.Backends.{Member}
@@ -9,17 +10,18 @@ use Rattle.lb_select_base.specs.declared.refusal.Refusal.TheVariants.{OutOfMemor
 use Rattle.lb_rebuild_core.specs.SlotsCalls as slots
 use Rattle.lb_rebuild_core.specs.SlotsHistory as core
 use Rattle.lb_rebuild_core.specs.SlotsHistory.{past_of, served, extra, generation_of}
-use Rattle.lb_rebuild_core.specs.Stands.{Made}
+use Rattle.lb_rebuild_core.specs.Stands.{Made, StandsFor}
 use Rattle.lb_rebuild_core.specs.declared.answers.Selection.{Selection}
 use Rattle.lb_rebuild_core.specs.declared.membership.Scheduled.{Scheduled}
-use Rattle.lb_health_view.specs.RegistrySide.{registry_released, IsReady}
+use Rattle.lb_health_view.specs.RegistrySide.{registry_released, registry_updated, IsReady}
 use Rattle.lb_health_view.specs.Snapshots.{ViewValue}
 use Rattle.lb_health_view.specs.ViewEvents.{ViewEvent}
 use Rattle.lb_health_view.specs.Views.{IsViewAfter}
 use Rattle.lb_health_core.specs.Registry.{RegistryValue, IsRegistryAfter}
 use Rattle.lb_health_core.specs.RegistryEvents as registry
+use Rattle.lb_health_core.specs.RegistryEvents.{Event, Applied, Updated, cells_given, has_view, views_after}
 use Rattle.lb_rebuild_core.specs.GroupHistory.{History, Shown, slot_events, in_group, after_settings}
-use Rattle.lb_rebuild_core.specs.GroupStates.{views_of}
+use Rattle.lb_rebuild_core.specs.GroupStates.{GroupValue, Stands, After, SameSite, views_of}
 
 -- a membership that another call below may refuse for memory, because no number is left for a cell, or because no such view is
 -- registered
@@ -52,6 +54,46 @@ abbrev pub after_schedule :
     (Member → Member) → ℕ → List Member → List (Member × Bool) → ℕ → List registry.Event → History → History
 after_schedule key_of id members settings now events e =
     after_settings settings (with_membership members (registry.shown_cells key_of id members events) now e)
+
+-- A joined group was given a membership with its settings at a moment, and answered r: what it was before (v) and is after (w), and what
+-- its registry was before (x) and is after (y).
+pub record IsScheduled {C R : Type 0} (gives : R → Member → Member → Type 0) (v : GroupValue C) (x : RegistryValue R)
+    (members : List Member) (settings : List (Member × Bool)) (now : ℕ) (r : Result Scheduled Refusal) (w : GroupValue C)
+    (y : RegistryValue R) : Type 0 where
+  -- the answer is right
+  pub answers : After v (λ made e. Schedules made e members r)
+  -- where it is taken in, the group has the cells that the registry gives, and then the settings
+  pub stands : OnOk r ((key_of : Member → Member) (events : List Event) → IsRegistryAfter gives key_of events x
+      → After v (λ made e. Stands made (after_schedule key_of v.view.id members settings now events e) w))
+  -- the same of the slots alone, whatever the registry has been through
+  pub group : IfOk r (λ s. After v (λ made e. StandsFor made (slots.schedule_events members now (Ok s) ++ slot_events e) w.group))
+  -- where it is taken in, the registry shows it to the view
+  pub registry : OnOk r ((key_of : Member → Member) (events : List Event) → IsRegistryAfter gives key_of events x
+      → After v (λ made e. IsRegistryAfter gives key_of (registry_updated key_of v.view.id members (views_of made e) events) y))
+  -- where it is refused, the group is as before
+  pub err : OnErr r (After v (λ made e. Stands made e w))
+  -- where it is refused, the registry is as before
+  pub registry_err : OnErr r ((key_of : Member → Member) (events : List Event) → IsRegistryAfter gives key_of events x
+      → IsRegistryAfter gives key_of events y)
+  -- it is refused for the want of a view only where the registry has no such view
+  pub unknown : IsErrOf r NoSuch → (key_of : Member → Member) (events : List Event) → IsRegistryAfter gives key_of events x
+      → has_view v.view.id (views_after events) ≡ false
+  -- it is refused for the want of numbers only where too few are left for its cells
+  pub numbers : IsErrOf r NumbersExhausted → (key_of : Member → Member) (events : List Event) → IsRegistryAfter gives key_of events x
+      → 2 ^ 64 ≤ cells_given key_of (Updated v.view.id members ∷ Applied ∷ events)
+  -- another membership that the group itself doesn't refuse is refused for the want of a view where the registry has no such view
+  pub missing : (key_of : Member → Member) (events : List Event) → IsRegistryAfter gives key_of events x
+      → After v (λ made e. slots.schedule_refusal members (slot_events e) ≡ None → slots.is_change members (slot_events e) ≡ true
+      → has_view v.view.id (views_after events) ≡ false → r ≡ Err NoSuch)
+  -- and for the want of numbers where it has the view and too few are left
+  pub lacking : (key_of : Member → Member) (events : List Event) → IsRegistryAfter gives key_of events x
+      → After v (λ made e. slots.schedule_refusal members (slot_events e) ≡ None → slots.is_change members (slot_events e) ≡ true
+      → has_view v.view.id (views_after events) ≡ true → 2 ^ 64 ≤ cells_given key_of (Updated v.view.id members ∷ Applied ∷ events)
+      → r ≡ Err NumbersExhausted)
+  -- gate, configurations and view stay
+  pub site : SameSite v w
+  -- it is the same registry
+  pub one_registry : y.id ≡ x.id
 
 -- the registry of a view after a call that lets a snapshot go where it isn't refused
 abbrev pub released_where : {A B : Type 0} → Result A B → ℕ → ℕ → List ViewEvent → List registry.Event → List registry.Event

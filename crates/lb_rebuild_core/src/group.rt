@@ -12,21 +12,20 @@ ghost use Rattle.lb_rebuild_core.specs.SlotsHistory.{served as served_after, is_
 ghost use Rattle.lb_rebuild_core.specs.SlotsHistory.{waits as waits_after, readers as readers_after};
 ghost use Rattle.lb_rebuild_core.specs.SlotsHistory.{extra, flight_after, is_extra};
 ghost use Rattle.lb_rebuild_core.specs.Values.{configs_of};
-ghost use Rattle.lb_rebuild_core.specs.Stands.{Made, StandsFor, After as AfterGroup, counts_after};
+ghost use Rattle.lb_rebuild_core.specs.Stands.{Made, After as AfterGroup, counts_after};
 ghost use Rattle.lb_rebuild_core.specs.SlotsCalls.{IsOwnJob, Asks, ask_events, gate_after, Fails, fail_events, gate_back, Publishes};
 ghost use Rattle.lb_rebuild_core.specs.SlotsCalls.{publish_events, Abandons, abandon_events, Unless, lose_refusal, done_at, Enters};
 ghost use Rattle.lb_rebuild_core.specs.SlotsCalls.{Leaves};
-ghost use Rattle.lb_rebuild_core.specs.SlotsCalls.{is_change, schedule_events, schedule_refusal, Prepares, FitsIfThere};
+ghost use Rattle.lb_rebuild_core.specs.SlotsCalls.{schedule_refusal, Prepares, FitsIfThere};
 ghost use Rattle.lb_rebuild_core.specs.SlotsCalls.{Takes, Reports, at_slot, SelectsIn, select_events, IsTicket, ticket_events};
-ghost use Rattle.lb_health_view.specs.RegistrySide.{IsReady, settings_of, registry_updated};
+ghost use Rattle.lb_health_view.specs.RegistrySide.{IsReady, settings_of};
 ghost use Rattle.lb_health_view.specs.ViewEvents.{Held};
 ghost use Rattle.lb_health_view.specs.Views.{IsViewAfter};
 ghost use Rattle.lb_health_core.specs.Registry.{IsRegistryAfter};
 ghost use Rattle.lb_health_core.specs.RegistryEvents.{Event, Registered, Applied, Updated, Marked, registered_after, views_after};
-ghost use Rattle.lb_health_core.specs.RegistryEvents.{has_view};
-ghost use Rattle.lb_health_core.specs.RegistryEvents.{cells_given};
+ghost use Rattle.lb_health_core.specs.RegistryEvents.{has_view, cells_given};
 ghost use Rattle.lb_rebuild_core.specs.GroupCalls.{IsSharedRefusal, IsRefusedFor, served_at, Judges, IsJudged, AcceptsBy};
-ghost use Rattle.lb_rebuild_core.specs.GroupCalls.{IsMakingRefusal, Schedules, after_schedule, released_where, generation_at};
+ghost use Rattle.lb_rebuild_core.specs.GroupCalls.{IsMakingRefusal, IsScheduled, released_where, generation_at};
 ghost use Rattle.lb_rebuild_core.specs.GroupCalls.{after_select};
 ghost use Rattle.lb_rebuild_core.specs.GroupHistory.{History, Set, slot_events, in_group, members_now};
 ghost use Rattle.lb_rebuild_core.specs.GroupStates.{Stands, IsFounded, After, Becomes, SameSite, views_of};
@@ -188,36 +187,7 @@ impl<S: BackendSelection> GroupCore<S> {
         now: u128,
     ) -> Result<Scheduled, Refusal>
         requires registry { registry.old.id ≡ self.old.registry }
-        ensures answers { After self.old (λ made e. Schedules made e discovered.keys result) }
-        ensures stands { OnOk result ((key_of : Member → Member) (events : List Event) → IsRegistryAfter R.gives key_of events registry.old
-            → After self.old (λ made e. Stands made
-            (after_schedule key_of self.old.view.id discovered.keys (settings_of settings.entries) now events e) self.new)) }
-        ensures group { IfOk result (λ s. After self.old (λ made e. StandsFor made
-            (schedule_events discovered.keys now (Ok s) ++ slot_events e) self.new.group)) }
-        ensures registry { OnOk result ((key_of : Member → Member) (events : List Event)
-            → IsRegistryAfter R.gives key_of events registry.old
-            → After self.old (λ made e. IsRegistryAfter R.gives key_of
-            (registry_updated key_of self.old.view.id discovered.keys (views_of made e) events) registry.new)) }
-        ensures err { OnErr result (After self.old (λ made e. Stands made e self.new)) }
-        ensures registry_err { OnErr result ((key_of : Member → Member) (events : List Event)
-            → IsRegistryAfter R.gives key_of events registry.old
-            → IsRegistryAfter R.gives key_of events registry.new) }
-        ensures unknown { IsErrOf result Refusal.NoSuch → (key_of : Member → Member) (events : List Event)
-            → IsRegistryAfter R.gives key_of events registry.old → has_view self.old.view.id (views_after events) ≡ false }
-        ensures numbers { IsErrOf result Refusal.NumbersExhausted → (key_of : Member → Member) (events : List Event)
-            → IsRegistryAfter R.gives key_of events registry.old
-            → 2 ^ 64 ≤ cells_given key_of (Updated self.old.view.id discovered.keys ∷ Applied ∷ events) }
-        ensures missing { (key_of : Member → Member) (events : List Event) → IsRegistryAfter R.gives key_of events registry.old
-            → After self.old (λ made e. schedule_refusal discovered.keys (slot_events e) ≡ None
-            → is_change discovered.keys (slot_events e) ≡ true → has_view self.old.view.id (views_after events) ≡ false
-            → result ≡ Err Refusal.NoSuch) }
-        ensures lacking { (key_of : Member → Member) (events : List Event) → IsRegistryAfter R.gives key_of events registry.old
-            → After self.old (λ made e. schedule_refusal discovered.keys (slot_events e) ≡ None
-            → is_change discovered.keys (slot_events e) ≡ true → has_view self.old.view.id (views_after events) ≡ true
-            → 2 ^ 64 ≤ cells_given key_of (Updated self.old.view.id discovered.keys ∷ Applied ∷ events)
-            → result ≡ Err Refusal.NumbersExhausted) }
-        ensures site { SameSite self.old self.new }
-        ensures one_registry { registry.new.id ≡ registry.old.id }
+        ensures { IsScheduled R.gives self.old registry.old discovered.keys (settings_of settings.entries) now result self.new registry.new }
     {
         let prepared = prepared(alloc, &self.group, &self.view, registry, &discovered)?;
         self.view

@@ -15,12 +15,12 @@ use Rattle.lb_rebuild_core.specs.declared.answers.Ask.{Ask}
 use Rattle.lb_rebuild_core.specs.declared.answers.Publication.{Publication}
 use Rattle.lb_rebuild_core.specs.declared.answers.Publication.TheVariants as told
 use Rattle.lb_rebuild_core.specs.declared.membership.Scheduled.{Scheduled}
-use Rattle.lb_rebuild_core.specs.GroupCalls.{released_where, generation_at}
+use Rattle.lb_rebuild_core.specs.GroupCalls.{IsScheduled, released_where, generation_at}
 use Rattle.lb_rebuild_core.specs.GroupHistory.{History, Set, slot_events, in_group}
 use Rattle.lb_rebuild_core.specs.Stands.{Made}
 use Rattle.lb_rebuild_core.specs.GroupStates.{GroupValue, After, Becomes, IsFounded, SameSite, views_of}
 use Rattle.lb_balancer_core.specs.Through.{UpdatedThrough}
-use Rattle.lb_balancer_core.specs.Plain.{IsAsked, IsEntered, IsTaken, IsScheduled, IsReadyFor}
+use Rattle.lb_balancer_core.specs.Plain.{IsAsked, IsEntered, IsTaken, IsReadyFor}
 use Rattle.lb_threads_core.specs.Registry.{IsRegistryOf, UnderRegistry}
 use Rattle.lb_threads_group.specs.Shared.{SharedValue}
 

@@ -1,46 +1,19 @@
 -- Another membership is the next generation, and its word is raised to it; the same membership changes no word.
-use Rattle.std.proofs.Common.{◌≡◌, ◌≢◌, ◌∙◌, ◌++◌, List, Ok, [], length, length-set, sym, ap, subst, refl}
-use Rattle.lb_select_base.specs.Backends.{Member}
-use Rattle.lb_rebuild_core.specs.SlotsCalls.{schedule_events}
-use Rattle.lb_rebuild_core.specs.Stands.{StandsFor}
-use Rattle.lb_health_view.specs.RegistrySide.{settings_of}
-use Rattle.lb_health_core.specs.Registry.{IsRegistryAfter}
-use Rattle.lb_health_core.specs.RegistryEvents.{Event}
-use Rattle.lb_rebuild_core.specs.GroupCalls.{after_schedule}
-use Rattle.lb_rebuild_core.specs.GroupHistory.{slot_events}
-use Rattle.lb_rebuild_core.specs.GroupStates.{GroupValue, Stands, After}
+use Rattle.std.proofs.Common.{◌≡◌, ◌∙◌, [], length, length-set, sym, ap, refl, rules, Err}
 use Rattle.lb_rebuild.specs.Pass.{WriterValue}
-use Rattle.lb_rebuild.specs.Watched.{WatchedValue}
 use Rattle.lb_rebuild.proofs.Words.{unscheduled, scheduled, raised_newest, quiet_call}
 use Rattle.lb_rebuild.proofs.watched.Watched.schedule.Goals as goal
 
-pub returns-clause-stands : goal.returns-clause-stands
-returns-clause-stands g c =
-    subst (λ (v : GroupValue g.row.S-Config.Denot). (key_of : Member → Member) (events : List Event)
-    → IsRegistryAfter g.R.KeyRule.gives key_of events c.args.registry.now
-    → After v (λ made e. Stands made
-    (after_schedule key_of v.view.id c.args.discovered.keys (settings_of c.args.settings.entries) c.args.now events e) c.schedule.new.self))
-    (ap (λ (w : WatchedValue g.row.S-Config.Denot). w.core) c.self.view_is) c.in_ok-scheduled.ensures.stands
+pub returns-clause-scheduled : goal.returns-clause-scheduled
+returns-clause-scheduled g c = rw (← c.self.view_is) c.in_ok-scheduled.ensures
 
-pub returns-clause-group : goal.returns-clause-group
-returns-clause-group g c =
-    subst (λ (v : GroupValue g.row.S-Config.Denot). After v (λ made e. StandsFor made
-    (schedule_events c.args.discovered.keys c.args.now (Ok c.in_ok-scheduled.scheduled) ++ slot_events e) c.schedule.new.self.group))
-    (ap (λ (w : WatchedValue g.row.S-Config.Denot). w.core) c.self.view_is) c.in_ok-scheduled.ensures.group
+pub returns-then-scheduled-clause-scheduled : goal.returns-then-scheduled-clause-scheduled
+returns-then-scheduled-clause-scheduled g c = rw (← c.self.view_is) c.in_ok-scheduled.ensures
 
-pub returns-then-scheduled-clause-stands : goal.returns-then-scheduled-clause-stands
-returns-then-scheduled-clause-stands g c =
-    subst (λ (v : GroupValue g.row.S-Config.Denot). (key_of : Member → Member) (events : List Event)
-    → IsRegistryAfter g.R.KeyRule.gives key_of events c.args.registry.now
-    → After v (λ made e. Stands made
-    (after_schedule key_of v.view.id c.args.discovered.keys (settings_of c.args.settings.entries) c.args.now events e) c.schedule.new.self))
-    (ap (λ (w : WatchedValue g.row.S-Config.Denot). w.core) c.self.view_is) c.in_ok-scheduled.ensures.stands
-
-pub returns-then-scheduled-clause-group : goal.returns-then-scheduled-clause-group
-returns-then-scheduled-clause-group g c =
-    subst (λ (v : GroupValue g.row.S-Config.Denot). After v (λ made e. StandsFor made
-    (schedule_events c.args.discovered.keys c.args.now (Ok c.in_ok-scheduled.scheduled) ++ slot_events e) c.schedule.new.self.group))
-    (ap (λ (w : WatchedValue g.row.S-Config.Denot). w.core) c.self.view_is) c.in_ok-scheduled.ensures.group
+pub returns-in_err-scheduled-clause-scheduled : goal.returns-in_err-scheduled-clause-scheduled
+returns-in_err-scheduled-clause-scheduled g c =
+    let is : c.from_residual.result ≡ Err c.in_err-scheduled.field-0.0 = search rules in
+    rw (is, ← c.self.view_is) c.in_err-scheduled.ensures
 
 pub invariant_of-self-then-scheduled : goal.invariant_of-self-then-scheduled
 invariant_of-self-then-scheduled g c =

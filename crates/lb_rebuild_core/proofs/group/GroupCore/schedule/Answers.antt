@@ -1,39 +1,27 @@
 -- A membership reaches group and view, or neither.
-use Rattle.std.proofs.Common.{◌≡◌, ◌≤◌, ◌+◌, ◌^◌, ◌&&◌, ◌==◌, ◌∙◌, [], ◌∷◌, ◌++◌, refl, ap, sym, subst, Bool, true, false, not, List}
+use Rattle.std.proofs.Common.{◌≡◌, ◌+◌, ◌^◌, ◌&&◌, ◌==◌, ◌∙◌, [], ◌∷◌, ◌++◌, refl, ap, sym, subst, Bool, true, false, not, List}
 use Rattle.std.proofs.Common.{length, Option, Some, None, rules, arith, Result, Ok, Err, if◌then◌else◌}
 use Rattle.std.proofs.lemmas.Bool.{false≢true, eq-eqb}
 use Rattle.std.specs.Prelude.{◌≢◌}
 use Rattle.lb_select_base.specs.Backends.{Member}
 use Rattle.lb_select_base.specs.Memberships.{same_members}
 use Rattle.lb_select_base.specs.declared.refusal.Refusal.{Refusal}
-use Rattle.lb_select_base.specs.declared.refusal.Refusal.TheVariants.{NoSuch, NumbersExhausted, GenerationsExhausted}
-use Rattle.lb_rebuild_core.specs.SlotsCalls.{is_change, schedule_refusal}
+use Rattle.lb_select_base.specs.declared.refusal.Refusal.TheVariants.{GenerationsExhausted}
+use Rattle.lb_rebuild_core.specs.SlotsCalls as slots
+use Rattle.lb_rebuild_core.specs.SlotsCalls.{IsCommitted, Prepares, is_change, schedule_refusal, turns_after}
+use Rattle.lb_rebuild_core.specs.SlotsHistory as past
 use Rattle.lb_rebuild_core.specs.SlotsHistory.{Scheduled, newest}
 use Rattle.lb_rebuild_core.specs.Stands.{Made, StandsFor}
-use Rattle.lb_health_core.specs.Registry.{IsRegistryAfter}
-use Rattle.lb_health_core.specs.RegistryEvents.{Applied, Updated, cells_given, has_view, shown_cells, views_after}
-use Rattle.lb_health_view.specs.RegistrySide.{settings_of, view_updated, registry_updated}
+use Rattle.lb_rebuild_core.specs.Values.{PreparedValue}
+use Rattle.lb_rebuild_core.specs.declared.membership.Scheduled as answer
+use Rattle.lb_health_core.specs.RegistryEvents.{shown_cells}
+use Rattle.lb_health_view.specs.RegistrySide.{settings_of}
 use Rattle.lb_health_view.specs.ViewEvents.{generation_after, membership_after}
-use Rattle.lb_health_view.specs.Views.{IsViewAfter}
-use Rattle.lb_rebuild_core.specs.GroupCalls.{Schedules}
 use Rattle.lb_rebuild_core.specs.GroupHistory.{History, slot_events, members_now}
-use Rattle.lb_rebuild_core.specs.GroupStates.{GroupValue, views_of}
-use Rattle.lb_rebuild_core.proofs.Joins.{group-part, view-part, none-change, some-change, refused-schedule, view-refused, schedules}
-use Rattle.lb_rebuild_core.proofs.Joins.{error-is}
+use Rattle.lb_rebuild_core.specs.GroupStates.{views_of}
+use Rattle.lb_rebuild_core.proofs.Joins.{none-change, some-change, refused-schedule, view-refused, schedules, error-is}
 use Rattle.lb_rebuild_core.proofs.Histories.{generation-is, members-are}
 use Rattle.lb_rebuild_core.proofs.group.GroupCore.schedule.Goals as goal
-
-pub returns-in_err-update-clause-answers : goal.returns-in_err-update-clause-answers
-returns-in_err-update-clause-answers g c made e s =
-    let own = group-part made e _ _ _ c.self.view_is s in
-    let seen = view-part made e _ _ _ c.self.view_is s in
-    let is : c.from_residual-in_err-update.result ≡ Err c.in_err-update.field-0.0 = search rules in
-    subst (λ r. Schedules made e c.args.discovered.keys r) (sym is)
-    (refused-schedule made e c.args.discovered.keys _ c.in_ok-prepared.prepared c.in_err-update.field-0.0 own
-    (c.in_ok-prepared.ensures.answers made (slot_events e) own) c.in_ok-prepared.ensures.fits
-    (λ same. absurd (false≢true (c.in_err-update.ensures.same (views_of made e) seen same)))
-    (λ why. c.in_err-update.ensures.last (ap Err why) (views_of made e) seen)
-    (view-refused c.in_err-update.field-0.0 c.in_err-update.ensures.refused))
 
 pub invariant_of-self-in-None : goal.invariant_of-self-in-None
 invariant_of-self-in-None g c =
@@ -70,70 +58,6 @@ invariant_of-self-in-Some g c =
       ),
     )
 
-pub returns-in-None-clause-stands : goal.returns-in-None-clause-stands
-returns-in-None-clause-stands g c key_of events r made e s =
-    let own = group-part made e _ _ _ c.self.view_is s in
-    let seen = view-part made e _ _ _ c.self.view_is s in
-    let id = ap (λ (v : GroupValue g.row.S-Config.Denot). v.view.id) c.self.view_is in
-    let now : IsViewAfter (view_updated key_of c.args.self.now.view.id c.args.discovered.keys (settings_of c.args.settings.entries) events
-    (views_of made e)) c.update.new.self =
-    subst (λ i. IsViewAfter (view_updated key_of i c.args.discovered.keys (settings_of c.args.settings.entries) events (views_of made e))
-    c.update.new.self) id
-    (c.in_ok-update.ensures.view key_of (views_of made e) events seen r) in
-    schedules made e c.args.discovered.keys (shown_cells key_of c.args.self.now.view.id c.args.discovered.keys events)
-    (settings_of c.args.settings.entries) c.args.now false c.self.inside.group c.update.new.self s.few
-    (none-change made (slot_events e) c.args.discovered.keys c.in_ok-prepared.prepared c.in-None.is
-    (c.in_ok-prepared.ensures.answers made (slot_events e) own))
-    own now
-
-pub returns-in-Some-clause-stands : goal.returns-in-Some-clause-stands
-returns-in-Some-clause-stands g c key_of events r made e s =
-    let own = group-part made e _ _ _ c.self.view_is s in
-    let seen = view-part made e _ _ _ c.self.view_is s in
-    let id = ap (λ (v : GroupValue g.row.S-Config.Denot). v.view.id) c.self.view_is in
-    let change = some-change made (slot_events e) c.args.discovered.keys c.in_ok-prepared.prepared c.in-Some.prepared c.in-Some.is
-    (c.in_ok-prepared.ensures.answers made (slot_events e) own) in
-    let after : StandsFor made (Scheduled c.args.discovered.keys c.args.now ∷ slot_events e) c.commit.new.self =
-    subst (λ ms. StandsFor made (Scheduled ms c.args.now ∷ slot_events e) c.commit.new.self) change.1
-    (c.commit.ensures.stands made (slot_events e) own) in
-    let now : IsViewAfter (view_updated key_of c.args.self.now.view.id c.args.discovered.keys (settings_of c.args.settings.entries) events
-    (views_of made e)) c.update.new.self =
-    subst (λ i. IsViewAfter (view_updated key_of i c.args.discovered.keys (settings_of c.args.settings.entries) events (views_of made e))
-    c.update.new.self) id
-    (c.in_ok-update.ensures.view key_of (views_of made e) events seen r) in
-    schedules made e c.args.discovered.keys (shown_cells key_of c.args.self.now.view.id c.args.discovered.keys events)
-    (settings_of c.args.settings.entries) c.args.now true c.commit.new.self c.update.new.self s.few change.0
-    after now
-
-pub returns-in-None-clause-group : goal.returns-in-None-clause-group
-returns-in-None-clause-group g c made e s = group-part made e _ _ _ c.self.view_is s
-
-pub returns-in-Some-clause-group : goal.returns-in-Some-clause-group
-returns-in-Some-clause-group g c made e s =
-    let own = group-part made e _ _ _ c.self.view_is s in
-    let change = some-change made (slot_events e) c.args.discovered.keys c.in_ok-prepared.prepared c.in-Some.prepared c.in-Some.is
-    (c.in_ok-prepared.ensures.answers made (slot_events e) own) in
-    let after : StandsFor made (Scheduled c.args.discovered.keys c.args.now ∷ slot_events e) c.commit.new.self =
-    subst (λ ms. StandsFor made (Scheduled ms c.args.now ∷ slot_events e) c.commit.new.self) change.1
-    (c.commit.ensures.stands made (slot_events e) own) in
-    subst (λ (b : Bool). StandsFor made ((if b then Scheduled c.args.discovered.keys c.args.now ∷ [] else []) ++ slot_events e)
-    c.commit.new.self)
-    (sym c.commit.ensures.answers.1) after
-
-pub returns-in-None-clause-registry : goal.returns-in-None-clause-registry
-returns-in-None-clause-registry g c key_of events r made e s =
-    subst (λ i. IsRegistryAfter g.R.KeyRule.gives key_of (registry_updated key_of i c.args.discovered.keys (views_of made e) events)
-    c.update.new.registry)
-    (ap (λ (v : GroupValue g.row.S-Config.Denot). v.view.id) c.self.view_is)
-    (c.in_ok-update.ensures.registry key_of (views_of made e) events (view-part made e _ _ _ c.self.view_is s) r)
-
-pub returns-in-Some-clause-registry : goal.returns-in-Some-clause-registry
-returns-in-Some-clause-registry g c key_of events r made e s =
-    subst (λ i. IsRegistryAfter g.R.KeyRule.gives key_of (registry_updated key_of i c.args.discovered.keys (views_of made e) events)
-    c.update.new.registry)
-    (ap (λ (v : GroupValue g.row.S-Config.Denot). v.view.id) c.self.view_is)
-    (c.in_ok-update.ensures.registry key_of (views_of made e) events (view-part made e _ _ _ c.self.view_is s) r)
-
 not_true : (b : Bool) → not b ≡ true → b ≡ false
 not_true true e = absurd (cc)
 not_true false e = refl
@@ -157,42 +81,143 @@ generation_left made e members none change full =
     none_left true false o s t e = cc
     none_left false b o s t e = cc
 
-pub returns-in_err-update-clause-missing : goal.returns-in_err-update-clause-missing
-returns-in_err-update-clause-missing g c key_of events r made e s none change has =
-    let seen = view-part made e _ _ _ c.self.view_is s in
-    let id = ap (λ (v : GroupValue g.row.S-Config.Denot). v.view.id) c.self.view_is in
-    let is : c.from_residual-in_err-update.result ≡ Err c.in_err-update.field-0.0 = search rules in
-    is ∙ ap Err (error-is c.in_err-update.field-0.0 NoSuch (c.in_err-update.ensures.missing key_of (views_of made e) events seen r
-    (differs made e c.args.discovered.keys change)
-    (generation_left made e c.args.discovered.keys none change) (ap (λ i. has_view i (views_after events)) id ∙ has)))
-
-pub returns-in_err-update-clause-lacking : goal.returns-in_err-update-clause-lacking
-returns-in_err-update-clause-lacking g c key_of events r made e s none change has few =
-    let seen = view-part made e _ _ _ c.self.view_is s in
-    let id = ap (λ (v : GroupValue g.row.S-Config.Denot). v.view.id) c.self.view_is in
-    let is : c.from_residual-in_err-update.result ≡ Err c.in_err-update.field-0.0 = search rules in
-    is ∙ ap Err (error-is c.in_err-update.field-0.0 NumbersExhausted (c.in_err-update.ensures.lacking key_of (views_of made e) events seen r
-    (differs made e c.args.discovered.keys change)
-    (generation_left made e c.args.discovered.keys none change) (ap (λ i. has_view i (views_after events)) id ∙ has)
-    (subst (λ i. 2 ^ 64 ≤ cells_given key_of (Updated i c.args.discovered.keys ∷ Applied ∷ events)) (sym id) few)))
-
 -- an answer is no refusal
 answered : {A E : Type 0} (x : A) (e : E) → (let ok : Result A E = Ok x in let err : Result A E = Err e in ok ≡ err) → ⊥
 answered x e h = cc
 
-pub returns-in-Some-clause-missing : goal.returns-in-Some-clause-missing
-returns-in-Some-clause-missing g c key_of events r made e s none change has =
-    let seen = view-part made e _ _ _ c.self.view_is s in
-    let id = ap (λ (v : GroupValue g.row.S-Config.Denot). v.view.id) c.self.view_is in
-    absurd (answered _ NoSuch (c.in_ok-update.ensures.missing key_of (views_of made e) events seen r
-    (differs made e c.args.discovered.keys change)
-    (generation_left made e c.args.discovered.keys none change) (ap (λ i. has_view i (views_after events)) id ∙ has)))
+-- the answer to the same membership is right
+same_told : {C : Type 0} (made : Made C) (h : past.History) (members : List Member) (o : Option (PreparedValue C)) (s : answer.Scheduled)
+    → o ≡ None
+    → Prepares made h members (Ok o) → s.changed ≡ false → s.generation ≡ newest h → s.turns.items ≡ []
+    → slots.Schedules made h members (Ok s)
+same_told made h members None s is p changed generation turns = (
+  p.0,
+  changed ∙ sym p.1,
+  subst (λ (b : Bool). s.generation ≡ (if b then newest h + 1 else newest h)) (sym p.1) generation,
+  subst (λ (b : Bool). s.turns.items ≡ (if b then turns_after 0 made.configs h else [])) (sym p.1) turns,
+)
+same_told made h members (Some q) s is p changed generation turns = absurd (cc)
 
-pub returns-in-Some-clause-lacking : goal.returns-in-Some-clause-lacking
-returns-in-Some-clause-lacking g c key_of events r made e s none change has few =
-    let seen = view-part made e _ _ _ c.self.view_is s in
-    let id = ap (λ (v : GroupValue g.row.S-Config.Denot). v.view.id) c.self.view_is in
-    absurd (answered _ NumbersExhausted (c.in_ok-update.ensures.lacking key_of (views_of made e) events seen r
-    (differs made e c.args.discovered.keys change)
-    (generation_left made e c.args.discovered.keys none change) (ap (λ i. has_view i (views_after events)) id ∙ has)
-    (subst (λ i. 2 ^ 64 ≤ cells_given key_of (Updated i c.args.discovered.keys ∷ Applied ∷ events)) (sym id) few)))
+-- the answer to another one is right
+other_told : {C : Type 0} (made : Made C) (h : past.History) (members : List Member) (o : Option (PreparedValue C)) (q : PreparedValue C)
+    (s : answer.Scheduled) → o ≡ Some q
+    → Prepares made h members (Ok o) → IsCommitted q s → slots.Schedules made h members (Ok s)
+other_told {C} made h members o q s is fits told =
+    let p : Prepares made h members (Ok (Some q)) = subst (λ (x : Option (PreparedValue C)). Prepares made h members (Ok x)) is fits in (
+      p.0,
+      told.1 ∙ sym p.1,
+      subst (λ (b : Bool). s.generation ≡ (if b then newest h + 1 else newest h)) (sym p.1) (told.0 ∙ p.2),
+      subst (λ (b : Bool). s.turns.items ≡ (if b then turns_after 0 made.configs h else [])) (sym p.1) (told.2 ∙ p.4),
+    )
+
+pub returns-in_err-prepared : goal.returns-in_err-prepared
+returns-in_err-prepared g c =
+    let p = c.self.invariant in
+    let own = p.1.1.group in
+    let known = c.in_err-prepared.ensures in
+    let is : c.from_residual.result ≡ Err c.in_err-prepared.field-0.0 = search rules in
+    rw (is, ← c.self.view_is) (record {
+      answers = λ made e s. known.refused made (slot_events e) s.group;
+      stands = tt;
+      group = tt;
+      registry = tt;
+      err = λ made e s. s;
+      registry_err = λ key_of events r. r;
+      unknown = λ why key_of events r. known.unknown (ap Err (error-is _ _ why)) key_of events r p.0 (slot_events p.1.0) own;
+      numbers = λ why key_of events r. known.numbers (ap Err (error-is _ _ why)) key_of events r p.0 (slot_events p.1.0) own;
+      missing = λ key_of events r made e s none change has. ap Err (known.missing key_of events r made (slot_events e) s.group none has);
+      lacking = λ key_of events r made e s none change has few.
+          ap Err (known.lacking key_of events r made (slot_events e) s.group none has few);
+      site = record { group = record { id = refl; gate = refl; configs = refl }; id = refl; registry = refl };
+      one_registry = refl;
+    })
+
+pub returns-in_err-update : goal.returns-in_err-update
+returns-in_err-update g c =
+    let members = c.args.discovered.keys in
+    let known = c.in_err-update.ensures in
+    let is : c.from_residual-in_err-update.result ≡ Err c.in_err-update.field-0.0 = search rules in
+    rw (is, ← c.self.view_is) (record {
+      answers = λ made e s. refused-schedule made e members _ c.in_ok-prepared.prepared c.in_err-update.field-0.0 s.group
+          (c.in_ok-prepared.ensures.answers made (slot_events e) s.group) c.in_ok-prepared.ensures.fits
+          (λ same. absurd (false≢true (known.same (views_of made e) s.view same)))
+          (λ why. known.last (ap Err why) (views_of made e) s.view)
+          (view-refused c.in_err-update.field-0.0 known.refused);
+      stands = tt;
+      group = tt;
+      registry = tt;
+      err = λ made e s. record { few = s.few; group = s.group; view = known.view_err (views_of made e) s.view };
+      registry_err = known.registry_err;
+      unknown = λ why. known.unknown (ap Err (error-is _ _ why));
+      numbers = λ why. known.numbers (ap Err (error-is _ _ why));
+      missing = λ key_of events r made e s none change has.
+          ap Err (error-is _ _ (known.missing key_of (views_of made e) events s.view r (differs made e members change)
+          (generation_left made e members none change) has));
+      lacking = λ key_of events r made e s none change has few.
+          ap Err (error-is _ _ (known.lacking key_of (views_of made e) events s.view r (differs made e members change)
+          (generation_left made e members none change) has few));
+      site = record { group = record { id = refl; gate = refl; configs = refl }; id = c.update.ensures.id; registry = refl };
+      one_registry = c.update.ensures.one_registry;
+    })
+
+pub returns-in-None : goal.returns-in-None
+returns-in-None g c =
+    let members = c.args.discovered.keys in
+    let known = c.in_ok-update.ensures in
+    rw (← c.self.view_is) (record {
+      answers = λ made e s. same_told made (slot_events e) members c.in_ok-prepared.prepared
+          (record { generation = c.newest.result; changed = false; turns = c.new.result }) c.in-None.is
+          (c.in_ok-prepared.ensures.answers made (slot_events e) s.group) refl (c.newest.ensures made (slot_events e) s.group) (search rules);
+      stands = λ key_of events r made e s. schedules made e members (shown_cells key_of c.self.inside.view.id members events)
+          (settings_of c.args.settings.entries) c.args.now false c.self.inside.group c.update.new.self s.few
+          (none-change made (slot_events e) members c.in_ok-prepared.prepared c.in-None.is
+          (c.in_ok-prepared.ensures.answers made (slot_events e) s.group))
+          s.group (known.view key_of (views_of made e) events s.view r);
+      group = λ made e s. s.group;
+      registry = λ key_of events r made e s. known.registry key_of (views_of made e) events s.view r;
+      err = tt;
+      registry_err = tt;
+      unknown = λ why. absurd (answered _ _ why);
+      numbers = λ why. absurd (answered _ _ why);
+      missing = λ key_of events r made e s none change has.
+          absurd (false≢true (sym (none-change made (slot_events e) members c.in_ok-prepared.prepared c.in-None.is
+          (c.in_ok-prepared.ensures.answers made (slot_events e) s.group)) ∙ change));
+      lacking = λ key_of events r made e s none change has few.
+          absurd (false≢true (sym (none-change made (slot_events e) members c.in_ok-prepared.prepared c.in-None.is
+          (c.in_ok-prepared.ensures.answers made (slot_events e) s.group)) ∙ change));
+      site = record { group = record { id = refl; gate = refl; configs = refl }; id = c.update.ensures.id; registry = refl };
+      one_registry = c.update.ensures.one_registry;
+    })
+
+pub returns-in-Some : goal.returns-in-Some
+returns-in-Some g c =
+    let members = c.args.discovered.keys in
+    let known = c.in_ok-update.ensures in
+    let change = λ (made : Made g.row.S-Config.Denot) (e : History) (s : StandsFor made (slot_events e) c.self.inside.group).
+    some-change made (slot_events e) members c.in_ok-prepared.prepared c.in-Some.prepared c.in-Some.is
+    (c.in_ok-prepared.ensures.answers made (slot_events e) s) in
+    let after = λ (made : Made g.row.S-Config.Denot) (e : History) (s : StandsFor made (slot_events e) c.self.inside.group).
+    subst (λ (ms : List Member). StandsFor made (Scheduled ms c.args.now ∷ slot_events e) c.commit.new.self) (change made e s).1
+    (c.commit.ensures.stands made (slot_events e) s) in
+    rw (← c.self.view_is) (record {
+      answers = λ made e s. other_told made (slot_events e) members c.in_ok-prepared.prepared c.in-Some.prepared c.commit.result c.in-Some.is
+          (c.in_ok-prepared.ensures.answers made (slot_events e) s.group) c.commit.ensures.answers;
+      stands = λ key_of events r made e s. schedules made e members (shown_cells key_of c.self.inside.view.id members events)
+          (settings_of c.args.settings.entries) c.args.now true c.commit.new.self c.update.new.self s.few (change made e s.group).0
+          (after made e s.group) (known.view key_of (views_of made e) events s.view r);
+      group = λ made e s. subst (λ (b : Bool). StandsFor made ((if b then Scheduled members c.args.now ∷ [] else []) ++ slot_events e)
+          c.commit.new.self) (sym c.commit.ensures.answers.1) (after made e s.group);
+      registry = λ key_of events r made e s. known.registry key_of (views_of made e) events s.view r;
+      err = tt;
+      registry_err = tt;
+      unknown = λ why. absurd (answered _ _ why);
+      numbers = λ why. absurd (answered _ _ why);
+      missing = λ key_of events r made e s none other has.
+          absurd (answered _ _ (known.missing key_of (views_of made e) events s.view r (differs made e members other)
+          (generation_left made e members none other) has));
+      lacking = λ key_of events r made e s none other has few.
+          absurd (answered _ _ (known.lacking key_of (views_of made e) events s.view r (differs made e members other)
+          (generation_left made e members none other) has few));
+      site = record { group = c.commit.ensures.site; id = c.update.ensures.id; registry = refl };
+      one_registry = c.update.ensures.one_registry;
+    })

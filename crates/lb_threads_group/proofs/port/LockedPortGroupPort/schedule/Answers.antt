@@ -7,13 +7,13 @@ use Rattle.lb_threads_group.proofs.port.LockedPortGroupPort.schedule.Goals as go
 
 pub put_registry-requires-clause-registry : goal.put_registry-requires-clause-registry
 put_registry-requires-clause-registry g c =
-    let is = c.schedule-told.ensures in
+    let is = c.schedule-told.ensures.scheduled in
     later c.take_registry-cells.ensures.registry (scheduled_later c.schedule-told.result c.take-held.result.value.core
     c.args.discovered.keys c.founded.ensures is.registry is.registry_err)
 
 pub returns : goal.returns
 returns g c =
-    let is = c.schedule-told.ensures in
+    let is = c.schedule-told.ensures.scheduled in
     let v = c.take-held.result.value.core in (
       (
         c.take_registry-cells.result.value,
@@ -29,7 +29,7 @@ returns g c =
                   c.schedule-told.new.self.core,
                   (
                     (search rules, c.founded.ensures),
-                    (is.answers, is.stands, is.registry, is.err, is.registry_err, is.unknown, is.numbers, is.missing, is.lacking, is.site),
+                    is,
                   ),
                 ),
               ),
