@@ -68,7 +68,7 @@ type GenerationNumber<S, D, R, C> = KeyedNumbers<Snapshot<Origin<S, D, R, C>>, O
 pub(crate) const LEFT: u64 = 0x8000_0000_0000_0000;
 
 // The number of lanes: as many as threads that select at once may want, a power of two.
-const LANES: usize = 64;
+const LANES: usize = 128;
 
 // What a balancer has for its threads: the locks of what is served and of what is shown of it, the generation that is served, the lanes, a
 // generator, and the loads.

@@ -9,15 +9,14 @@ use counted_slot::{Claim, Counted, FREE, Fits, MARKED, MOST_READERS, ONE_READER,
 // How often a reader tries one lane, since other readers change its word.
 const READS: u32 = 3;
 
-/// A value that may be there, with random words, and with so much room on both sides that its word shares a line of memory with no other
-/// lane, and with nothing else. Contracts see the key that each value of it fits, as `slot`.
+/// A value that may be there, with random words, and with so much room after it that its word shares a line of memory with no other lane.
+/// Contracts see the key that each value of it fits, as `slot`.
 #[derive(Drop)]
 pub struct Lane<X: Fits + Drop> {
-    room: [u64; 6],
     // Right before the word of the slot, so that who counts itself there finds both in one line.
     generator: SharedGenerator,
     pub slot: Counted<Option<X>>,
-    more_room: [u64; 7],
+    room: [u64; 7],
 }
 
 /// A value that is read in its lane. It is neither dropped nor exchanged while this lives.
@@ -54,10 +53,9 @@ impl<X: Fits + Drop> Lane<X> {
         ensures { result.slot ≡ key.now }
     {
         Lane {
-            room: [0; 6],
             generator: SharedGenerator::new(seed),
             slot: Counted::new(None, key),
-            more_room: [0; 7],
+            room: [0; 7],
         }
     }
 
