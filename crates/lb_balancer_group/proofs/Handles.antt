@@ -8,7 +8,6 @@ use Rattle.lb_select_base.specs.declared.walk.BackendSelection.{Ghosts as Select
 use Rattle.lb_select_base.specs.declared.walk.BackendIter.{Ghosts as Iter}
 use Rattle.lb_health_core.specs.declared.keys.KeyRule.{Ghosts as Keys}
 use Rattle.lb_health_view.proofs.discovery.DiscoverySource.TheSendSync as discovery
-use Rattle.lb_balancer_core.proofs.timings.UpdateTimings.TheSendSync as timings
 use Rattle.lb_threads_core.proofs.registry.HealthRegistry.TheSendSync as registry
 use Rattle.lb_threads_group.specs.contracts.group.SharedGroup as shared
 use Rattle.lb_threads_group.proofs.Crossings.{shared_send, shared_sync}
@@ -67,13 +66,7 @@ module _ (T D R H I C W : RattleType) (g : Selection T.Denot I.Denot C.Denot W.D
             Arc-send _ group_send group_sync,
             (
               search (sendable, crosses) depth 20,
-              (
-                search (sendable, crosses) depth 20,
-                (
-                  search (sendable, crosses, timings.the_send) depth 20,
-                  (search (sendable, crosses) depth 20, (search (sendable, crosses) depth 20, (search sendable depth 10, tt))),
-                ),
-              ),
+              (search (sendable, crosses) depth 20, (search (sendable, crosses) depth 20, (search sendable depth 10, tt))),
             ),
           ),
         ),
@@ -97,13 +90,7 @@ module _ (T D R H I C W : RattleType) (g : Selection T.Denot I.Denot C.Denot W.D
             Arc-sync _ group_send group_sync,
             (
               search (sendable, crosses) depth 20,
-              (
-                search (sendable, crosses) depth 20,
-                (
-                  search (sendable, crosses, timings.the_send) depth 20,
-                  (search (sendable, crosses) depth 20, (search (sendable, crosses) depth 20, (search sendable depth 10, tt))),
-                ),
-              ),
+              (search (sendable, crosses) depth 20, (search (sendable, crosses) depth 20, (search sendable depth 10, tt))),
             ),
           ),
         ),

@@ -1,25 +1,18 @@
 //! `LoadBalancerGroup`: a group of slots as its users own it. Updates, selections and readings need a borrow only; workers build
 //! meanwhile. Its drop takes no lock: its workers cancel it, and the registry's next call removes its view.
-ghost use Rattle.std.specs.Prelude.{◌≡◌, ◌+◌, [], None, false, map, length, IfErr, IfOk, MatchBool, OnErr, OnOk};
+ghost use Rattle.std.specs.Prelude.{◌≡◌, ◌+◌, [], None, false, map, length, IfErr, IfOk, OnErr, OnOk};
 ghost use Rattle.std.specs.Arc.{arc_value};
 ghost use Rattle.lb_select_base.specs.Refusals.{least};
-ghost use Rattle.lb_rebuild_core.specs.SlotsCalls.{at_slot};
-ghost use Rattle.lb_rebuild_core.specs.SlotsHistory.{past_of, newest, is_cancelled, coalesced, failed, timing as timing_after};
 ghost use Rattle.lb_rebuild_core.specs.GroupCalls.{IsMakingRefusal};
-ghost use Rattle.lb_rebuild_core.specs.GroupHistory.{slot_events};
-ghost use Rattle.lb_rebuild_core.specs.GroupStates.{After, Stands};
-ghost use Rattle.lb_balancer_core.specs.Timings.{selector_timings};
 ghost use Rattle.lb_health_view.specs.Discoveries.{FoundBy};
 ghost use Rattle.lb_balancer_core.specs.Looks.{Answers};
-ghost use Rattle.lb_threads_group.specs.Group.{Seen, UpdatedUnder};
+ghost use Rattle.lb_threads_group.specs.Group.{UpdatedUnder};
 ghost use Rattle.lb_threads_group.specs.Kept.{SelectedFrom};
 ghost use Rattle.lb_balancer_group.specs.Made.{IsGateRefusal, IsNewGroup, slot_configs};
 
 use crate::configured::{Configured, SlotConfig};
 use crate::gate_refusal::GateRefusal;
-use crate::making::{configs_of, first_cause, opened, own_gate, update_noting};
-use crate::noting::Noting;
-use lb_balancer_core::timings::{SelectorUpdateTimings, UpdateTimings};
+use crate::making::{configs_of, first_cause, opened, own_gate};
 use lb_health_core::health_check::{BoxedCheck, HealthCheck};
 use lb_health_core::keys::{KeyRule, Rule};
 use lb_health_view::discovery::{BoxedDiscovery, DiscoverySource, ServiceDiscovery};
@@ -36,7 +29,7 @@ use lb_threads_core::owner::ViewOwner;
 use lb_threads_core::registry::HealthRegistry;
 use lb_threads_group::group::SharedGroup;
 use std::alloc::Global;
-use std::sync::{Arc, Mutex, Wait};
+use std::sync::{Arc, Wait};
 
 /// A group of slots, each of which serves a selector of its own. Its frequencies are set before threads share it.
 ///
@@ -56,9 +49,6 @@ pub struct LoadBalancerGroup<
     configs: Vec<SlotConfig<S>>,
     pub(crate) shared: Arc<SharedGroup<Configured<S>, R, C>>,
     view: ViewOwner,
-    // Held by an update to its end, so that the timing is that of the last one.
-    updates: Mutex<()>,
-    pub(crate) timing: Mutex<Option<UpdateTimings>>,
     /// How often checks run, in nanoseconds; once where it is `None`.
     pub health_check_frequency: Option<u128>,
     /// How often backends are discovered, in nanoseconds; once where it is `None`.
@@ -77,8 +67,6 @@ impl<S: BackendSelection, D: Drop, R: KeyRule + Drop, C: HealthCheck + Drop> Dro
             configs: _,
             shared,
             view: _,
-            updates: _,
-            timing: _,
             health_check_frequency: _,
             update_frequency: _,
             parallel_health_check: _,
@@ -141,8 +129,6 @@ impl<
             configs,
             shared,
             view,
-            updates: Mutex::new(()),
-            timing: Mutex::new(None),
             health_check_frequency: None,
             update_frequency: None,
             parallel_health_check: false,
@@ -151,7 +137,7 @@ impl<
 
     /// Gives the group this gate for its rebuilds, which other groups may share. It is for a group that no thread uses yet.
     ///
-    /// The group is made again from its parts, with a new view of the registry, without loads and without workers; what was before ends
+    /// The group is made again from its parts, with a new view of the registry, without loads, workers and timing; what was before ends
     /// as by a drop of the group.
     ///
     /// # Errors
@@ -186,7 +172,6 @@ impl<
         self.shared.let_go();
         self.shared = shared;
         self.view = view;
-        self.timing = Mutex::new(None);
         Ok(())
     }
 
@@ -205,21 +190,8 @@ impl<
     ) -> Result<u64, Refusal>
         ensures { UpdatedUnder R.gives K.reads (FoundBy D.finds) self.now.discovery clock.old (arc_value self.now.shared) result clock.new }
     {
-        let turn = self.updates.lock(rt);
-        let mut noting = Noting {
-            clock,
-            first: None,
-            last: 0,
-        };
-        let told = update_noting(rt, alloc, &*self.shared, &self.discovery, &mut noting);
-        if told.is_ok() {
-            *self.timing.lock(rt) = Some(UpdateTimings {
-                discovery_duration: noting.passed(),
-                build_duration: 0,
-            });
-        }
-        drop(turn);
-        told
+        let shared: &SharedGroup<Configured<S>, R, C> = &*self.shared;
+        shared.update(rt, alloc, &self.discovery, clock)
     }
 
     /// Returns the first ready backend among the distinct of the first `max_iterations` candidates of what the slot serves, or `None`.

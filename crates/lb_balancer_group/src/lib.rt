@@ -8,7 +8,6 @@ pub mod drive;
 pub mod gate_refusal;
 pub mod group;
 mod making;
-mod noting;
 mod passes;
 pub mod port;
 pub mod reader;

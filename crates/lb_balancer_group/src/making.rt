@@ -1,21 +1,16 @@
-//! Making a group from its parts, and an update that notes its moments.
+//! Making a group from its parts.
 ghost use Rattle.std.specs.Prelude.{◌≡◌, ◌+◌, ◌⊎◌, [], Some, None, map, length, unwrap_or, IfErr, IfOk, IfSome, IfNone};
 ghost use Rattle.std.specs.Arc.{arc_value};
 ghost use Rattle.lb_select_base.specs.Refusals.{least, memory_apart as apart};
 ghost use Rattle.lb_rebuild_core.specs.GroupCalls.{IsMakingRefusal};
-ghost use Rattle.lb_health_view.specs.Discoveries.{FoundBy};
-ghost use Rattle.lb_threads_group.specs.Group.{UpdatedUnder};
 ghost use Rattle.lb_balancer_group.specs.Made.{IsNewGroup, slot_configs};
 
 use crate::configured::{Configured, SlotConfig};
-use crate::noting::Noting;
 use lb_health_core::health_check::HealthCheck;
 use lb_health_core::keys::KeyRule;
-use lb_health_view::discovery::{DiscoverySource, ServiceDiscovery};
 use lb_rebuild_core::group::GroupCore;
 use lb_select_base::backend::Backend;
 use lb_select_base::causes::{earlier, memory_apart};
-use lb_select_base::moments::MomentSource;
 use lb_select_base::refusal::Refusal;
 use lb_select_base::walk::BackendSelection;
 use lb_threads_core::gate::{SelectorRebuildGate, put_gate, take_gate};
@@ -177,27 +172,4 @@ pub(crate) fn opened<S: BackendSelection, R: KeyRule + Drop, C: HealthCheck + Dr
     let copies = copies_of(alloc, configs)?;
     let core: GroupCore<Configured<S>> = make(rt, alloc, &**registry, &*gate, copies)?;
     share(rt, alloc, core, registry, gate)
-}
-
-// Updates by a clock that notes its readings, which are those of the clock that it borrows.
-pub(crate) fn update_noting<
-    'c,
-    S: BackendSelection,
-    W: Wait,
-    D: ServiceDiscovery,
-    R: KeyRule + Drop,
-    C: HealthCheck + Drop,
-    K: MomentSource,
->(
-    rt: &W,
-    alloc: Global,
-    group: &SharedGroup<S, R, C>,
-    discovery: &DiscoverySource<D>,
-    noting: &mut Noting<'c, K>,
-) -> Result<u64, Refusal>
-    ensures updated { UpdatedUnder R.gives K.reads (FoundBy D.finds) discovery.now noting.old.clock.now group.now result
-        noting.new.clock.now }
-    ensures same_reference { noting.new.clock.ghost_name ≡ noting.old.clock.ghost_name }
-{
-    group.update(rt, alloc, discovery, noting)
 }

@@ -125,8 +125,9 @@ impl<
         shared.selector_failed(rt, slot)
     }
 
-    /// Returns how long the last accepted update took; `None` before the first.
+    /// Returns how long the last accepted update took, whether it was this handle's or that of `shared`; `None` before the first.
     pub fn last_update_timing<W: Wait>(&self, rt: &W) -> Option<UpdateTimings> {
-        *self.timing.lock(rt)
+        let shared: &SharedGroup<Configured<S>, R, C> = &*self.shared;
+        shared.last_update_timing(rt)
     }
 }

@@ -6,6 +6,7 @@ use Rattle.std.proofs.Crossing.{crosses}
 use Rattle.lb_select_base.specs.declared.walk.BackendSelection.{Ghosts as Selection}
 use Rattle.lb_select_base.specs.declared.walk.BackendIter.{Ghosts as Iter}
 use Rattle.lb_health_core.specs.declared.keys.KeyRule.{Ghosts as Keys}
+use Rattle.lb_balancer_core.proofs.timings.UpdateTimings.TheSendSync as timings
 use Rattle.lb_threads_core.proofs.loads.SharedLoads.TheSendSync as loads
 use Rattle.lb_threads_core.proofs.loads.LoadWords.TheSendSync as load_words
 use Rattle.lb_threads_core.proofs.generators.SharedGenerator.TheSendSync as generator
@@ -113,20 +114,23 @@ module _ (T R H I C W : RattleType) (g : Selection T.Denot I.Denot C.Denot W.Den
                 (
                   search (sendable, crosses) depth 20,
                   (
-                    search (sendable, crosses, line.the_send) depth 20,
+                    search (sendable, crosses, timings.the_send) depth 20,
                     (
-                      search (sendable, crosses, marks.the_send) depth 20,
+                      search (sendable, crosses, line.the_send) depth 20,
                       (
-                        search (sendable, site_send) depth 20,
+                        search (sendable, crosses, marks.the_send) depth 20,
                         (
-                          search (sendable, crosses, lanes.the_send, lanes.the_sync, entry_send, entry_sync) depth 20,
+                          search (sendable, site_send) depth 20,
                           (
-                            search (sendable, crosses) depth 20,
+                            search (sendable, crosses, lanes.the_send, lanes.the_sync, entry_send, entry_sync) depth 20,
                             (
-                              search (sendable, crosses, lock.the_send, lock.the_field_send, slot_words_send, slot_words_sync) depth 20,
+                              search (sendable, crosses) depth 20,
                               (
-                                search (sendable, crosses, generator.the_send, generator.the_sync) depth 20,
-                                (search (sendable, crosses, numbered.the_field_send) depth 30, tt),
+                                search (sendable, crosses, lock.the_send, lock.the_field_send, slot_words_send, slot_words_sync) depth 20,
+                                (
+                                  search (sendable, crosses, generator.the_send, generator.the_sync) depth 20,
+                                  (search (sendable, crosses, numbered.the_field_send) depth 30, tt),
+                                ),
                               ),
                             ),
                           ),
@@ -156,20 +160,23 @@ module _ (T R H I C W : RattleType) (g : Selection T.Denot I.Denot C.Denot W.Den
                 (
                   search (sendable, crosses) depth 20,
                   (
-                    search (sendable, crosses, line.the_sync) depth 20,
+                    search (sendable, crosses, timings.the_send) depth 20,
                     (
-                      search (sendable, crosses, marks.the_sync) depth 20,
+                      search (sendable, crosses, line.the_sync) depth 20,
                       (
-                        search (sendable, site_sync) depth 20,
+                        search (sendable, crosses, marks.the_sync) depth 20,
                         (
-                          search (sendable, crosses, lanes.the_send, lanes.the_sync, entry_send, entry_sync) depth 20,
+                          search (sendable, site_sync) depth 20,
                           (
-                            search (sendable, crosses) depth 20,
+                            search (sendable, crosses, lanes.the_send, lanes.the_sync, entry_send, entry_sync) depth 20,
                             (
-                              search (sendable, crosses, lock.the_sync, lock.the_field_sync, slot_words_send, slot_words_sync) depth 20,
+                              search (sendable, crosses) depth 20,
                               (
-                                search (sendable, crosses, generator.the_send, generator.the_sync) depth 20,
-                                (search (sendable, crosses, numbered.the_field_sync) depth 30, tt),
+                                search (sendable, crosses, lock.the_sync, lock.the_field_sync, slot_words_send, slot_words_sync) depth 20,
+                                (
+                                  search (sendable, crosses, generator.the_send, generator.the_sync) depth 20,
+                                  (search (sendable, crosses, numbered.the_field_sync) depth 30, tt),
+                                ),
                               ),
                             ),
                           ),

@@ -1,5 +1,6 @@
 //! A group that threads share, behind a lock of its own.
-//! Locks are taken in the order update, group, registry, gate, and but for that of an update none is held between two calls.
+//! Locks are taken in the order update, group, registry, gate, and but for that of an update none is held between two calls. The timing of
+//! the last update has a lock of its own, which is held for one read or one write, and no other lock is taken under it.
 ghost use Rattle.std.specs.Prelude.{◌≡◌, ◌+◌, All, IfErr, IfOk, length};
 ghost use Rattle.std.specs.Arc.{arc_value};
 ghost use Rattle.lb_threads_group.specs.Group.{UpdatedUnder};
@@ -7,8 +8,10 @@ ghost use Rattle.lb_threads_group.specs.Shared.{IsSame};
 
 use crate::found::{SlotWords, WordsLock};
 use crate::kept::{Site, SlotLanes};
+use crate::noting::Noting;
 use crate::numbers::{GroupNumbers, numbers_of};
 use crate::port::LockedPort;
+use lb_balancer_core::timings::UpdateTimings;
 use lb_balancer_core::update::update_through;
 use lb_health_core::health_check::{BoxedCheck, HealthCheck};
 use lb_health_core::keys::{KeyRule, Rule};
@@ -81,8 +84,9 @@ pub struct SharedGroup<S: BackendSelection, R: KeyRule + Drop = Rule<NoRule>, C 
     pub(crate) registry: Arc<HealthRegistry<R, C>>,
     pub(crate) gate: Arc<SelectorRebuildGate>,
     pub(crate) loads: SharedLoads,
-    // Held by an update from its discovery to its membership.
+    // Held by an update from its discovery to its end, so that the timing is that of the last one.
     updates: Mutex<()>,
+    timing: Mutex<Option<UpdateTimings>>,
     lines: Vec<SlotCounters>,
     pub(crate) marks: Marks,
     // Whose readers the lanes have, and the lanes of each slot.
@@ -107,6 +111,7 @@ impl<S: BackendSelection, R: KeyRule + Drop, C: Drop> Drop for SharedGroup<S, R,
             gate: _,
             loads: _,
             updates: _,
+            timing: _,
             lines: _,
             marks: _,
             site: _,
@@ -184,6 +189,7 @@ impl<S: BackendSelection, R: KeyRule + Drop, C: HealthCheck + Drop> SharedGroup<
             gate,
             loads: SharedLoads::new(alloc),
             updates: Mutex::new(()),
+            timing: Mutex::new(None),
             lines,
             marks: Marks {
                 let_go: AtomicBool::new(false),
@@ -321,11 +327,11 @@ impl<S: BackendSelection, R: KeyRule + Drop, C: HealthCheck + Drop> SharedGroup<
 
     /// Discovers, and makes what was discovered the newest membership. Returns the newest generation after it.
     ///
-    /// One update runs at a time. The discovery runs under the lock of updates alone.
+    /// One update runs at a time. The discovery runs under the lock of updates alone. An accepted update notes how long it took.
     ///
     /// # Errors
     ///
-    /// Those of `update_through`.
+    /// Those of `update_through`; the timing is then as before.
     pub fn update<W: Wait, D: ServiceDiscovery, K: MomentSource>(
         &self,
         rt: &W,
@@ -336,15 +342,47 @@ impl<S: BackendSelection, R: KeyRule + Drop, C: HealthCheck + Drop> SharedGroup<
         ensures { UpdatedUnder R.gives K.reads D.finds discovery.now clock.old self.now result clock.new }
     {
         let turn = self.updates.lock(rt);
+        let mut noting = Noting {
+            clock,
+            first: None,
+            last: 0,
+        };
+        let told = self.update_noting(rt, alloc, discovery, &mut noting);
+        if told.is_ok() {
+            *self.timing.lock(rt) = Some(UpdateTimings {
+                discovery_duration: noting.passed(),
+                build_duration: 0,
+            });
+        }
+        drop(turn);
+        told
+    }
+
+    // Updates by a clock that notes its readings, which are those of the clock that it borrows.
+    fn update_noting<'c, W: Wait, D: ServiceDiscovery, K: MomentSource>(
+        &self,
+        rt: &W,
+        alloc: Global,
+        discovery: &D,
+        noting: &mut Noting<'c, K>,
+    ) -> Result<u64, Refusal>
+        ensures updated { UpdatedUnder R.gives K.reads D.finds discovery.now noting.old.clock.now self.now result noting.new.clock.now }
+        ensures same_reference { noting.new.clock.ghost_name ≡ noting.old.clock.ghost_name }
+    {
         let mut port = LockedPort {
             group: self,
             rt,
             found: self.no_words(),
             lane: 0,
         };
-        let told = update_on(alloc, &mut port, discovery, clock);
-        drop(turn);
-        told
+        update_on(alloc, &mut port, discovery, noting)
+    }
+
+    /// Returns how long the last accepted update took, from its first reading of the clock to its last one; `None` before the first.
+    ///
+    /// It doesn't wait for an update that is under way.
+    pub fn last_update_timing<W: Wait>(&self, rt: &W) -> Option<UpdateTimings> {
+        *self.timing.lock(rt)
     }
 
     // The next random word of a slot's lane.

@@ -67,7 +67,7 @@ fn lent<W: Abort + Wait + Clock + Copy + Drop>(
         !backends.ready(rt, &one),
         !backends.ready(rt, &other),
         selected(rt, alloc, group).is_none(),
-        !group.is_cancelled(rt),
+        group.last_update_timing(rt).is_some() && !group.is_cancelled(rt),
     ]
 }
 
