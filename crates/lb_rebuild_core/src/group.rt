@@ -187,7 +187,8 @@ impl<S: BackendSelection> GroupCore<S> {
         now: u128,
     ) -> Result<Scheduled, Refusal>
         requires registry { registry.old.id ≡ self.old.registry }
-        ensures { IsScheduled R.gives self.old registry.old discovered.keys (settings_of settings.entries) now result self.new registry.new }
+        ensures { IsScheduled R.gives self.old registry.old discovered.keys (settings_of settings.entries) now result self.new
+            registry.new }
     {
         let prepared = prepared(alloc, &self.group, &self.view, registry, &discovered)?;
         self.view

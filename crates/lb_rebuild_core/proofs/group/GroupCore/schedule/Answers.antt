@@ -167,7 +167,8 @@ returns-in-None g c =
     rw (← c.self.view_is) (record {
       answers = λ made e s. same_told made (slot_events e) members c.in_ok-prepared.prepared
           (record { generation = c.newest.result; changed = false; turns = c.new.result }) c.in-None.is
-          (c.in_ok-prepared.ensures.answers made (slot_events e) s.group) refl (c.newest.ensures made (slot_events e) s.group) (search rules);
+          (c.in_ok-prepared.ensures.answers made (slot_events e) s.group) refl (c.newest.ensures made (slot_events e) s.group)
+          (search rules);
       stands = λ key_of events r made e s. schedules made e members (shown_cells key_of c.self.inside.view.id members events)
           (settings_of c.args.settings.entries) c.args.now false c.self.inside.group c.update.new.self s.few
           (none-change made (slot_events e) members c.in_ok-prepared.prepared c.in-None.is
@@ -200,8 +201,8 @@ returns-in-Some g c =
     subst (λ (ms : List Member). StandsFor made (Scheduled ms c.args.now ∷ slot_events e) c.commit.new.self) (change made e s).1
     (c.commit.ensures.stands made (slot_events e) s) in
     rw (← c.self.view_is) (record {
-      answers = λ made e s. other_told made (slot_events e) members c.in_ok-prepared.prepared c.in-Some.prepared c.commit.result c.in-Some.is
-          (c.in_ok-prepared.ensures.answers made (slot_events e) s.group) c.commit.ensures.answers;
+      answers = λ made e s. other_told made (slot_events e) members c.in_ok-prepared.prepared c.in-Some.prepared c.commit.result
+          c.in-Some.is (c.in_ok-prepared.ensures.answers made (slot_events e) s.group) c.commit.ensures.answers;
       stands = λ key_of events r made e s. schedules made e members (shown_cells key_of c.self.inside.view.id members events)
           (settings_of c.args.settings.entries) c.args.now true c.commit.new.self c.update.new.self s.few (change made e s.group).0
           (after made e s.group) (known.view key_of (views_of made e) events s.view r);
