@@ -1,5 +1,7 @@
 //! Two groups over one registry of health and one gate. A service checks their servers in the background, and workers build their
 //! selectors. A server that both groups have stops, and comes back.
+#![tactic(auto)]
+
 use log::Log;
 use pingora_load_balancing::background::{
     HealthCheckService, RuntimeClock, ShutdownSignal, ShutdownWatch, shutdown_pair,
@@ -10,7 +12,7 @@ use pingora_load_balancing::selection::RoundRobin;
 use pingora_load_balancing::{Backends, HealthRegistry, LoadBalancerGroup, SelectorRebuildGate};
 use std::alloc::Global;
 use std::collections::BTreeSet;
-use std::net::{Net, OpenListener, TcpListener, TcpStream};
+use std::net::{Net, OpenListener, TcpListener};
 use std::sync::{Arc, Wait};
 use std::thread::{self, Threads};
 use std::time::{Clock, Duration};
@@ -135,22 +137,7 @@ where
     Ok(())
 }
 
-/// Runs two groups that have one server in common, which stops and comes back.
-pub fn run<R>(rt: R) -> Result<(), anyhow::Error>
-where
-    R: Log
-        + Net<Stream = TcpStream>
-        + Threads
-        + Wait
-        + Clock
-        + Print
-        + AllocGlobal
-        + Copy
-        + Send
-        + Sync
-        + Drop
-        + 'static,
-{
+fn main(rt: HostRuntime) -> Result<(), anyhow::Error> {
     let alloc = rt.alloc();
     let first = TcpListener::bind(&rt, "127.0.0.1:0")?;
     let both = TcpListener::bind(&rt, "127.0.0.1:0")?;
@@ -160,7 +147,7 @@ where
     let last_text = format!(in alloc; "{}", last.local_addr()?)?;
     let (mut signal, watch) = shutdown_pair(alloc)?;
     let gate = Arc::new(alloc, SelectorRebuildGate::new(alloc)?)?;
-    let registry: Registry<TcpHealthCheck<R>> = HealthRegistry::new(alloc)?;
+    let registry: Registry<TcpHealthCheck<HostRuntime>> = HealthRegistry::new(alloc)?;
     let registry = Arc::new(alloc, registry)?;
     registry.set_health_check(&rt, TcpHealthCheck::new(rt))?;
     let mut service = HealthCheckService::new(Arc::try_clone(&registry)?);
