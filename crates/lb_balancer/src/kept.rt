@@ -147,12 +147,13 @@ impl<
         Some(self.select_kept(rt, alloc, kept, generator, key, max_iterations, accept))
     }
 
-    // Whether a member is ready, as its word says, where the first lane has what is served and the word is of now.
+    // Whether a member is ready, as its word says, where the second lane has what is served and the word is of now. The first one lies next
+    // to what other threads read.
     pub(crate) fn ready_in_lane(&self, backend: &Backend) -> Option<bool>
         ensures { IfSome result (JudgedBy R.gives self.now backend.now) }
     {
         let changes = self.changes_so_far();
-        let seen = self.lanes.read(0, &self.origin)?;
+        let seen = self.lanes.read(1, &self.origin)?;
         let kept = seen.value()?;
         if !self.is_served(kept.generation()) {
             return None;

@@ -46,8 +46,7 @@ impl<
         ensures { result.shared.now ≡ arc_value self.now.shared }
     {
         let shared: &SharedGroup<Configured<S>, R, C> = &*self.shared;
-        // Every second lane from the second on: the first lies next to what every selection reads, and processors fetch lines in pairs.
-        let lane = shared.own_lane().wrapping_mul(2).wrapping_add(1);
+        let lane = shared.own_lane();
         GroupReader { shared, lane }
     }
 }

@@ -209,10 +209,10 @@ where
     Ok(group)
 }
 
-// A lane of the thread's own, as a `GroupReader` has it, or that of each key.
+// A lane of the thread's own, or that of each key.
 fn lane_of<S: BackendSelection>(group: &Group<S>, is_own: bool) -> u64 {
     if is_own {
-        group.shared().own_lane().wrapping_mul(2).wrapping_add(1)
+        group.shared().own_lane()
     } else {
         BY_KEY
     }

@@ -77,9 +77,12 @@ impl<S: BackendSelection, R: KeyRule + Drop, C: HealthCheck + Drop> SharedGroup<
         answer
     }
 
-    /// Returns the number of a lane for a thread of its own: 0, and one more with each call, wrapping.
+    /// Returns the number of a lane for a thread of its own: 1, and two more with each call, wrapping.
+    ///
+    /// The first lane of a slot lies next to what every selection reads, and processors fetch lines of memory in pairs.
     pub fn own_lane(&self) -> u64 {
-        self.marks.readers.fetch_add(1, SeqCst)
+        let readers = self.marks.readers.fetch_add(1, SeqCst);
+        readers.wrapping_mul(2).wrapping_add(1)
     }
 
     // Selects in what a lane has, where it is of this slot.
