@@ -1,6 +1,5 @@
--- What is left of a walk over a borrowed selector of one of the kinds. A walk of another kind fits no selector, and has nothing left.
+-- What is left of a walk over a selector of one of the kinds. A walk of another kind fits no selector, and has nothing left.
 use Rattle.std.specs.Prelude.{◌≡◌, ℕ, ⊤, Bool, true, false, List, [], refl}
-use Rattle.std.specs.Arc.{arc_value}
 use Rattle.lb_select_base.specs.Algorithms.{hash_word, ticket_word, random_word}
 use Rattle.lb_select_base.specs.Backends.{Member}
 use Rattle.lb_select_base.specs.Draws.{Draw}
@@ -35,7 +34,7 @@ abbrev pub chosen_fits : Chosen → ChosenWalk → Type 0
 chosen_fits (chosen.Fnv selector) w = weighted_fits w
 chosen_fits (chosen.RoundRobin selector) w = weighted_fits w
 chosen_fits (chosen.Ketama selector) w = ring_fits w
-chosen_fits (chosen.Least selector) w = least_fits (arc_value selector) w
+chosen_fits (chosen.Least selector) w = least_fits selector w
 chosen_fits (chosen.Random selector) w = weighted_fits w
 
 -- nothing is drawn and no candidate comes
@@ -98,26 +97,26 @@ module _ (ms : List Member) where
   lasting_ends (lent.Least w) ds cs e over h = least_ends ms w.order.items w.at ds cs e over h
 
 abbrev pub chosen_rest : Chosen → ChosenWalk → List Draw → List Member → Bool → Type 0
-chosen_rest (chosen.Fnv selector) w = weighted_rest hash_word (arc_value selector) w
-chosen_rest (chosen.RoundRobin selector) w = weighted_rest ticket_word (arc_value selector) w
-chosen_rest (chosen.Ketama selector) w = ring_rest (arc_value selector) w
-chosen_rest (chosen.Least selector) w = least_rest (arc_value selector) w
-chosen_rest (chosen.Random selector) w = weighted_rest random_word (arc_value selector) w
+chosen_rest (chosen.Fnv selector) w = weighted_rest hash_word selector w
+chosen_rest (chosen.RoundRobin selector) w = weighted_rest ticket_word selector w
+chosen_rest (chosen.Ketama selector) w = ring_rest selector w
+chosen_rest (chosen.Least selector) w = least_rest selector w
+chosen_rest (chosen.Random selector) w = weighted_rest random_word selector w
 
 -- a walk that has given nothing yet
 pub chosen_rest_starts : (s : Chosen) (w : ChosenWalk) → chosen_rest s w [] [] false
-chosen_rest_starts (chosen.Fnv selector) w = weighted_starts hash_word (arc_value selector) w
-chosen_rest_starts (chosen.RoundRobin selector) w = weighted_starts ticket_word (arc_value selector) w
-chosen_rest_starts (chosen.Ketama selector) w = ring_starts (arc_value selector) w
-chosen_rest_starts (chosen.Least selector) w = lasting_starts (arc_value selector) w
-chosen_rest_starts (chosen.Random selector) w = weighted_starts random_word (arc_value selector) w
+chosen_rest_starts (chosen.Fnv selector) w = weighted_starts hash_word selector w
+chosen_rest_starts (chosen.RoundRobin selector) w = weighted_starts ticket_word selector w
+chosen_rest_starts (chosen.Ketama selector) w = ring_starts selector w
+chosen_rest_starts (chosen.Least selector) w = lasting_starts selector w
+chosen_rest_starts (chosen.Random selector) w = weighted_starts random_word selector w
 
 -- a walk that is over gives nothing more
 pub chosen_rest_ends :
     (s : Chosen) (w : ChosenWalk) (ds : List Draw) (cs : List Member) (e : Bool)
     → chosen_rest s w [] [] true → chosen_rest s w ds cs e → (ds ≡ []) × (cs ≡ [])
-chosen_rest_ends (chosen.Fnv selector) w ds cs e over h = weighted_ends hash_word (arc_value selector) w ds cs e over h
-chosen_rest_ends (chosen.RoundRobin selector) w ds cs e over h = weighted_ends ticket_word (arc_value selector) w ds cs e over h
-chosen_rest_ends (chosen.Ketama selector) w ds cs e over h = ring_ends (arc_value selector) w ds cs e over h
-chosen_rest_ends (chosen.Least selector) w ds cs e over h = lasting_ends (arc_value selector) w ds cs e over h
-chosen_rest_ends (chosen.Random selector) w ds cs e over h = weighted_ends random_word (arc_value selector) w ds cs e over h
+chosen_rest_ends (chosen.Fnv selector) w ds cs e over h = weighted_ends hash_word selector w ds cs e over h
+chosen_rest_ends (chosen.RoundRobin selector) w ds cs e over h = weighted_ends ticket_word selector w ds cs e over h
+chosen_rest_ends (chosen.Ketama selector) w ds cs e over h = ring_ends selector w ds cs e over h
+chosen_rest_ends (chosen.Least selector) w ds cs e over h = lasting_ends selector w ds cs e over h
+chosen_rest_ends (chosen.Random selector) w ds cs e over h = weighted_ends random_word selector w ds cs e over h

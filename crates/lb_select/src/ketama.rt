@@ -2,7 +2,6 @@
 //! It keeps points in order, with numbers in the place of addresses.
 ghost use Rattle.std.specs.Prelude.{◌≡◌, ◌+◌, ◌^◌, ◌<◌, length, [], MatchOption, option_and_then, slice_get, false, Some, None, ⊤};
 ghost use Rattle.std.specs.Option.{option_copied};
-ghost use Rattle.std.specs.Arc.{arc_value};
 ghost use Rattle.lb_select_base.specs.Backends.{Member};
 ghost use Rattle.lb_select_base.specs.Refusals.{Refuses};
 ghost use Rattle.lb_select.specs.Choices.{IsRingWalk, ring_refusal};
@@ -16,13 +15,13 @@ use crate::fill::{Marks, POINTS_PER_WEIGHT, marks_of, members_of, weight_on_ring
 use crate::index::Index;
 use crate::spread::points_of;
 use lb_select_base::backend::Backend;
+use lb_select_base::iter::Iter;
 use lb_select_base::refusal::Refusal;
-use lb_select_base::walk::{BackendIter, BackendSelection};
+use lb_select_base::walk::BackendSelection;
 use lb_select_base::words::WordSource;
 use std::alloc::Global;
 use std::collections::BTreeSet;
 use std::marker::Model;
-use std::sync::Arc;
 
 /// A selector by consistent hashing. Each internet backend has 160 points for each unit of its weight on a circle of 2^32
 /// places; a key goes to the backend of the first point at or above its CRC, and on from there. Backends of weight 0 and Unix
@@ -65,11 +64,7 @@ pub struct RingWalk {
 }
 
 /// A walk over the owners of a ring's points, from a key's place upwards and round for ever. It holds the ring.
-#[derive(Drop)]
-pub struct OwnedNodeIterator {
-    ring: Arc<KetamaHashing>,
-    walk: RingWalk,
-}
+pub type OwnedNodeIterator = Iter<KetamaHashing>;
 
 impl KetamaHashing {
     // The causes to refuse first, then what takes memory.
@@ -128,12 +123,9 @@ impl KetamaHashing {
         self.backends.get(index?)
     }
 
-    /// Returns the index, in the set's order, of the backend at the next point, or `None` on a ring without points.
-    ///
-    /// It is for a walk of several kinds.
-    pub fn advance(&self, walk: &mut RingWalk) -> Option<usize>
-        ensures inside { MatchOption result (self.now.points ≡ []) (λ i. i < length self.now.members) }
-        ensures step { IsMove self.now walk.old.at (option_and_then (slice_get self.now.members) result) walk.new.at }
+    // The index, in the set's order, of the backend at the next point, or none on a ring without points.
+    fn advance(&self, walk: &mut RingWalk) -> Option<usize>
+        ensures { IsMove self.now walk.old.at (option_and_then (slice_get self.now.members) result) walk.new.at }
     {
         let index = self.owner_at(walk.at)?;
         walk.at = self.index_of(walk.at) + 1;
@@ -141,41 +133,7 @@ impl KetamaHashing {
     }
 }
 
-impl OwnedNodeIterator {
-    /// Returns the index in the set's order of the backend at the next point, or `None` on a ring without points.
-    pub fn advance(&mut self) -> Option<usize>
-        ensures inside { MatchOption result ((arc_value self.old.ring).points ≡ []) (λ i. i < length (arc_value self.old.ring).members) }
-        ensures step { IsMove (arc_value self.old.ring) self.old.walk.at
-            (option_and_then (slice_get (arc_value self.old.ring).members) result) self.new.walk.at }
-        ensures ring { arc_value self.new.ring ≡ arc_value self.old.ring }
-    {
-        self.ring.advance(&mut self.walk)
-    }
-
-    /// Returns the backend of that index in the set's order.
-    pub fn backend(&self, index: Option<usize>) -> Option<&Backend>
-        ensures { option_copied result ≡ option_and_then (slice_get (arc_value self.now.ring).members) index }
-    {
-        self.ring.get(index)
-    }
-}
-
-impl BackendIter for OwnedNodeIterator {
-    ghost walk = { λ i. IsWalkFrom (arc_value i.ring) i.walk.at };
-
-    ghost starts = { λ i. walk_starts (arc_value i.ring) i.walk.at };
-
-    ghost ends = { λ i. walk_ends (arc_value i.ring) i.walk.at };
-
-    fn next<W: WordSource>(&mut self, _words: &mut W) -> Option<&Backend> {
-        let index = self.advance();
-        self.backend(index)
-    }
-}
-
 impl BackendSelection for KetamaHashing {
-    type Iter = OwnedNodeIterator;
-
     type Config = KetamaConfig;
 
     type Walk = RingWalk;
@@ -217,16 +175,6 @@ impl BackendSelection for KetamaHashing {
         config: &KetamaConfig,
     ) -> Result<Self, Refusal> {
         KetamaHashing::of_set(alloc, backends, *config)
-    }
-
-    fn iter<W: WordSource>(
-        of: &Arc<Self>,
-        key: &[u8],
-        words: &mut W,
-    ) -> Result<OwnedNodeIterator, Refusal> {
-        let ring = of.clone()?;
-        let walk = ring.start(key, words)?;
-        Ok(OwnedNodeIterator { ring, walk })
     }
 
     fn start<W: WordSource>(&self, key: &[u8], _words: &mut W) -> Result<RingWalk, Refusal> {

@@ -15,7 +15,7 @@ ghost use Rattle.lb_select.specs.Readings.{reading_cmp, AreRead, IsArranged, IsI
 use crate::reading::Reading;
 use lb_select_base::backend::Backend;
 use lb_select_base::refusal::Refusal;
-use lb_select_base::walk::{BackendIter, BackendSelection};
+use lb_select_base::walk::BackendSelection;
 use lb_select_base::words::WordSource;
 use std::alloc::{AllocError, Global};
 use std::cmp::Ordering;
@@ -69,15 +69,6 @@ pub struct LeastWalk {
     order: Vec<Reading>,
     // how many came already
     at: usize,
-}
-
-/// A walk over the candidates of a selector by least connections, which it holds, in the order of the loads at its beginning.
-/// It ends after each backend of weight above 0.
-#[derive(Drop)]
-pub struct LeastIterator {
-    backend: Arc<LeastConnections>,
-    walk: LeastWalk,
-    ghost inside: { IsInside (arc_value backend) walk.order.items },
 }
 
 impl LeastConnections {
@@ -139,12 +130,9 @@ impl LeastConnections {
         self.backends.get(index?)
     }
 
-    /// Returns the index of the next candidate in the set's order, or `None` after the last.
-    ///
-    /// It is for a walk of several kinds.
-    pub fn advance(&self, walk: &mut LeastWalk) -> Option<usize>
+    // The index of the next candidate in the set's order, or none after the last.
+    fn advance(&self, walk: &mut LeastWalk) -> Option<usize>
         requires { IsInside self.now walk.old.order.items }
-        ensures inside { MatchOption result (length walk.old.order.items ≤ walk.old.at) (λ i. i < length self.now) }
         ensures step { IsLeastStep self.now walk.old.order.items walk.old.at (option_and_then (slice_get self.now) result) walk.new.at }
         ensures order { walk.new.order.items ≡ walk.old.order.items }
     {
@@ -154,43 +142,7 @@ impl LeastConnections {
     }
 }
 
-impl LeastIterator {
-    /// Returns the index of the next candidate in the set's order, or `None` after the last.
-    pub fn advance(&mut self) -> Option<usize>
-        ensures inside { MatchOption result (length self.old.walk.order.items ≤ self.old.walk.at)
-            (λ i. i < length (arc_value self.old.backend)) }
-        ensures step { IsLeastStep (arc_value self.old.backend) self.old.walk.order.items self.old.walk.at
-            (option_and_then (slice_get (arc_value self.old.backend)) result) self.new.walk.at }
-        ensures order { self.new.walk.order.items ≡ self.old.walk.order.items }
-        ensures backend { arc_value self.new.backend ≡ arc_value self.old.backend }
-    {
-        self.backend.advance(&mut self.walk)
-    }
-
-    /// Returns the backend of that index in the set's order.
-    pub fn backend(&self, index: Option<usize>) -> Option<&Backend>
-        ensures { option_copied result ≡ option_and_then (slice_get (arc_value self.now.backend)) index }
-    {
-        self.backend.get(index)
-    }
-}
-
-impl BackendIter for LeastIterator {
-    ghost walk = { λ i. IsLeastRest (arc_value i.backend) i.walk.order.items i.walk.at };
-
-    ghost starts = { λ i. rest_starts (arc_value i.backend) i.walk.order.items i.walk.at };
-
-    ghost ends = { λ i. rest_ends (arc_value i.backend) i.walk.order.items i.walk.at };
-
-    fn next<W: WordSource>(&mut self, _words: &mut W) -> Option<&Backend> {
-        let index = self.advance();
-        self.backend(index)
-    }
-}
-
 impl BackendSelection for LeastConnections {
-    type Iter = LeastIterator;
-
     type Config = ();
 
     type Walk = LeastWalk;
@@ -229,16 +181,6 @@ impl BackendSelection for LeastConnections {
         _config: &(),
     ) -> Result<Self, Refusal> {
         LeastConnections::of_set(alloc, backends)
-    }
-
-    fn iter<W: WordSource>(
-        of: &Arc<Self>,
-        key: &[u8],
-        words: &mut W,
-    ) -> Result<LeastIterator, Refusal> {
-        let backend = of.clone()?;
-        let walk = backend.start(key, words)?;
-        Ok(LeastIterator { backend, walk })
     }
 
     fn start<W: WordSource>(&self, _key: &[u8], words: &mut W) -> Result<LeastWalk, Refusal> {

@@ -14,7 +14,8 @@ pub fn unique_walk_law<I: BackendIter, W: WordSource>()
 {}
 
 /// Such turns over the walk that a selector gave for a key find the distinct of the first `max_iterations` candidates of one of the
-/// selector's walks, and what `iter` and the turns drew are that walk's draws.
+/// selector's walks, and what `Iter::new` and the turns drew are that walk's draws.
 pub fn unique_selection_law<S: BackendSelection, W: WordSource>()
-    ensures { (s : S) (key : List ℕ) → TurnsAreOneWalk W.gives S.Iter.walk (walks_of S.BackendSelection s key) }
+    ensures { (s : S) (key : List ℕ) → TurnsAreOneWalk W.gives (λ i. S.rest i.selector i.walk)
+        (walks_of S.BackendSelection s key) }
 {}

@@ -17,8 +17,9 @@ use crate::divisor::Divisor;
 use crate::sums::{Sums, index_of_place};
 use lb_select_base::algorithms::FnvHasher;
 use lb_select_base::backend::Backend;
+use lb_select_base::iter::Iter;
 use lb_select_base::refusal::Refusal;
-use lb_select_base::walk::{BackendIter, BackendSelection, SelectionAlgorithm};
+use lb_select_base::walk::{BackendSelection, SelectionAlgorithm};
 use lb_select_base::words::WordSource;
 use std::alloc::{AllocError, Global};
 use std::collections::BTreeSet;
@@ -63,11 +64,7 @@ pub struct WeightedWalk {
 
 /// A walk over the candidates of a weighted selector, which it holds. It never ends where the total weight is above 0, and is
 /// over at once where it is 0.
-#[derive(Drop)]
-pub struct WeightedIterator<H> {
-    backend: Arc<Weighted<H>>,
-    walk: WeightedWalk,
-}
+pub type WeightedIterator<H> = Iter<Weighted<H>>;
 
 /// Where the interval of a place is, and what it took to find it.
 #[derive(Clone, Copy, Debug, PartialEq, Eq)]
@@ -198,12 +195,9 @@ impl<H: SelectionAlgorithm> Weighted<H> {
         word as usize % list.len()
     }
 
-    /// Returns the index of the next candidate in the set's order, or `None` where no backend has a weight.
-    ///
-    /// It is for a walk of several kinds.
-    pub fn advance<W: WordSource>(&self, walk: &mut WeightedWalk, words: &mut W) -> Option<usize>
-        ensures inside { MatchOption result (total_weight self.now ≡ 0) (λ i. i < length self.now) }
-        ensures step { IsStep W.gives (λ w. IsWeightedRest H.gives_word w.first self.now w.word)
+    // The index of the next candidate in the set's order, or none where no backend has a weight.
+    fn advance<W: WordSource>(&self, walk: &mut WeightedWalk, words: &mut W) -> Option<usize>
+        ensures { IsStep W.gives (λ w. IsWeightedRest H.gives_word w.first self.now w.word)
             walk.old words.old (option_and_then (slice_get self.now) result) walk.new words.new }
     {
         if self.total() == 0 {
@@ -218,42 +212,7 @@ impl<H: SelectionAlgorithm> Weighted<H> {
     }
 }
 
-impl<H: SelectionAlgorithm> WeightedIterator<H> {
-    /// Returns the index of the next candidate in the set's order, or `None` where no backend has a weight.
-    pub fn advance<W: WordSource>(&mut self, words: &mut W) -> Option<usize>
-        ensures inside { MatchOption result (total_weight (arc_value self.old.backend) ≡ 0)
-            (λ i. i < length (arc_value self.old.backend)) }
-        ensures step { IsStep W.gives (λ i. IsWeightedRest H.gives_word i.walk.first (arc_value i.backend) i.walk.word)
-            self.old words.old (option_and_then (slice_get (arc_value self.old.backend)) result) self.new words.new }
-        ensures backend { arc_value self.new.backend ≡ arc_value self.old.backend }
-    {
-        self.backend.advance(&mut self.walk, words)
-    }
-
-    /// Returns the backend of that index in the set's order.
-    pub fn backend(&self, index: Option<usize>) -> Option<&Backend>
-        ensures { option_copied result ≡ option_and_then (slice_get (arc_value self.now.backend)) index }
-    {
-        self.backend.get(index)
-    }
-}
-
-impl<H: SelectionAlgorithm> BackendIter for WeightedIterator<H> {
-    ghost walk = { λ i. IsWeightedRest H.gives_word i.walk.first (arc_value i.backend) i.walk.word };
-
-    ghost starts = { λ i. rest_none _ i.walk.first (arc_value i.backend) i.walk.word };
-
-    ghost ends = { λ i ds cs e over h. rest_ends _ i.walk.first (arc_value i.backend) i.walk.word ds cs e over h };
-
-    fn next<W: WordSource>(&mut self, words: &mut W) -> Option<&Backend> {
-        let index = self.advance(words);
-        self.backend(index)
-    }
-}
-
 impl<H: SelectionAlgorithm> BackendSelection for Weighted<H> {
-    type Iter = WeightedIterator<H>;
-
     type Config = ();
 
     type Walk = WeightedWalk;
@@ -293,16 +252,6 @@ impl<H: SelectionAlgorithm> BackendSelection for Weighted<H> {
         _config: &(),
     ) -> Result<Self, Refusal> {
         Self::build(alloc, backends)
-    }
-
-    fn iter<W: WordSource>(
-        of: &Arc<Self>,
-        key: &[u8],
-        words: &mut W,
-    ) -> Result<WeightedIterator<H>, Refusal> {
-        let backend = of.clone()?;
-        let walk = backend.start(key, words)?;
-        Ok(WeightedIterator { backend, walk })
     }
 
     fn start<W: WordSource>(&self, key: &[u8], words: &mut W) -> Result<WeightedWalk, Refusal> {

@@ -3,6 +3,7 @@ pub mod AlgorithmLaws
 pub mod Algorithms
 pub mod Backends
 pub mod Draws
+pub mod Held
 pub mod Identity
 pub mod Loads
 pub mod Memberships

@@ -50,5 +50,5 @@ Selects {B} same accepts limit gives walks s (Err e) t =
     × ((t ≡ s) ⊎ ((cs : List B) × IsWalked gives walks s t cs false × (length cs ≤ limit) × EndsDistinct same cs))
 
 -- the walks of a selector for a key, by what its type says of itself
-abbrev pub walks_of : {S I C W : Type 0} → Ghosts S I C W → S → List ℕ → List Draw → List Member → Bool → Type 0
+abbrev pub walks_of : {S C W : Type 0} → Ghosts S C W → S → List ℕ → List Draw → List Member → Bool → Type 0
 walks_of ghosts s key = ghosts.walks (ghosts.members s) (ghosts.built_with s) key

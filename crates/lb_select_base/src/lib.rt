@@ -6,6 +6,7 @@ mod address;
 pub mod algorithms;
 pub mod backend;
 pub mod causes;
+pub mod iter;
 pub mod laws;
 pub mod loads;
 pub mod moments;

@@ -4,7 +4,6 @@ ghost use Rattle.std.specs.Prelude.{◌≡◌, ◌≤◌, ℕ, max, Bool, true, 
 ghost use Rattle.std.specs.List.{AllByRecursion as Each};
 ghost use Rattle.std.specs.Option.{option_copied};
 ghost use Rattle.std.specs.Borrow.{sem};
-ghost use Rattle.std.specs.Arc.{arc_value};
 ghost use Rattle.lb_select_base.specs.Backends.{Member};
 ghost use Rattle.lb_select_base.specs.Draws.{Draw, Gives, IsNotRandom, words_in};
 ghost use Rattle.lb_select_base.specs.Refusals.{Refuses};
@@ -16,7 +15,6 @@ use crate::refusal::Refusal;
 use crate::words::WordSource;
 use std::alloc::Global;
 use std::collections::BTreeSet;
-use std::sync::Arc;
 
 /// How a walk gets its words: from the key alone, from a counter, or at random.
 pub trait SelectionAlgorithm: Drop {
@@ -64,13 +62,10 @@ pub trait BackendIter: Drop {
 
 /// A selector: it is built from a set of backends, and gives walks over candidates.
 pub trait BackendSelection: Drop {
-    /// The walks that it gives.
-    type Iter: BackendIter;
-
     /// What a selector is built with, apart from its set.
     type Config: Drop;
 
-    /// What a walk over a borrowed selector keeps from candidate to candidate. The selector itself is no part of it.
+    /// What a walk keeps from candidate to candidate. The selector itself is no part of it.
     type Walk: Drop;
 
     // The walks over a set: set, configuration and key, then the draws, the first candidates, whether the walk then ended.
@@ -109,22 +104,15 @@ pub trait BackendSelection: Drop {
         ensures { Refuses (refusal backends.now.keys config.now)
             (λ s. (members s ≡ backends.now.keys) × (built_with s ≡ config.now)) result };
 
-    /// Returns a walk for `key`.
-    ///
-    /// Refused for memory alone, and then before any word is drawn.
-    fn iter<W: WordSource>(of: &Arc<Self>, key: &[u8], words: &mut W) -> Result<Self::Iter, Refusal>
-        ensures { Begins W.gives Self.Iter.walk
-            (walks (members (arc_value of.now)) (built_with (arc_value of.now)) key.now) words.old result words.new };
-
     // Whether a walk was begun over this selector, or over one with the same meaning.
     ghost fits: { Self → Self.Walk → Type 0 };
 
-    // What the rest of a walk over a borrowed selector may be, as a `BackendIter` states it of its walk.
+    // What the rest of a walk may be: the draws made from here on, the first candidates that come, whether the walk then ended.
     ghost rest: { Self → Self.Walk → List Draw → List Member → Bool → Type 0 };
 
-    /// Returns a walk for `key` over this selector, which is borrowed at each step, so that no `Arc` is counted for it.
+    /// Returns a walk for `key` over this selector, which is borrowed at each step.
     ///
-    /// Refused as `iter` is.
+    /// Refused for memory alone, and then before any word is drawn.
     fn start<W: WordSource>(&self, key: &[u8], words: &mut W) -> Result<Self::Walk, Refusal>
         ensures begins { Begins W.gives (rest self.now)
             (walks (members self.now) (built_with self.now) key.now) words.old result words.new }
@@ -152,10 +140,10 @@ pub trait BackendSelection: Drop {
     ghost few_words: { (ms : List Member) (config : Self.Config) (key : List ℕ) (ds : List Draw) (cs : List Member) (e : Bool)
         → walks ms config key ds cs e → words_in ds ≤ max 1 (length cs) };
 
-    // Before anything is drawn the rest of a walk over a borrowed selector is there, with no candidate yet.
+    // Before anything is drawn the rest of a walk is there, with no candidate yet.
     ghost rest_starts: { (s : Self) (w : Self.Walk) → rest s w [] [] false };
 
-    // Such a walk that has ended draws nothing more and gives nothing more.
+    // A walk that has ended draws nothing more and gives nothing more.
     ghost rest_ends: { (s : Self) (w : Self.Walk) (ds : List Draw) (cs : List Member) (e : Bool)
         → rest s w [] [] true → rest s w ds cs e → (ds ≡ []) × (cs ≡ []) };
 }

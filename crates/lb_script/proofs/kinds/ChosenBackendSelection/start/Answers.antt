@@ -2,17 +2,17 @@
 use Rattle.lb_script.proofs.kinds.ChosenBackendSelection.start.Goals as goal
 
 pub returns-in_ok-walk-in-Fnv-clause-begins : goal.returns-in_ok-walk-in-Fnv-clause-begins
-returns-in_ok-walk-in-Fnv-clause-begins g c = rw c.in-Fnv.is (rw c.deref.ensures at c.in_ok-walk-in-Fnv.ensures.begins)
+returns-in_ok-walk-in-Fnv-clause-begins g c = rw c.in-Fnv.is c.in_ok-walk-in-Fnv.ensures.begins
 
 pub returns-in_ok-walk-in-RoundRobin-clause-begins : goal.returns-in_ok-walk-in-RoundRobin-clause-begins
 returns-in_ok-walk-in-RoundRobin-clause-begins g c =
-    rw c.in-RoundRobin.is (rw c.deref-in-RoundRobin.ensures at c.in_ok-walk-in-RoundRobin.ensures.begins)
+    rw c.in-RoundRobin.is c.in_ok-walk-in-RoundRobin.ensures.begins
 
 pub returns-in_ok-walk-in-Ketama-clause-begins : goal.returns-in_ok-walk-in-Ketama-clause-begins
-returns-in_ok-walk-in-Ketama-clause-begins g c = rw c.in-Ketama.is (rw c.deref-in-Ketama.ensures at c.in_ok-walk-in-Ketama.ensures.begins)
+returns-in_ok-walk-in-Ketama-clause-begins g c = rw c.in-Ketama.is c.in_ok-walk-in-Ketama.ensures.begins
 
 pub returns-in_ok-walk-in-Least-clause-begins : goal.returns-in_ok-walk-in-Least-clause-begins
-returns-in_ok-walk-in-Least-clause-begins g c = rw c.in-Least.is (rw c.deref-in-Least.ensures at c.in_ok-walk-in-Least.ensures.begins)
+returns-in_ok-walk-in-Least-clause-begins g c = rw c.in-Least.is c.in_ok-walk-in-Least.ensures.begins
 
 pub returns-in_ok-walk-in-Random-clause-begins : goal.returns-in_ok-walk-in-Random-clause-begins
-returns-in_ok-walk-in-Random-clause-begins g c = rw c.in-Random.is (rw c.deref-in-Random.ensures at c.in_ok-walk-in-Random.ensures.begins)
+returns-in_ok-walk-in-Random-clause-begins g c = rw c.in-Random.is c.in_ok-walk-in-Random.ensures.begins

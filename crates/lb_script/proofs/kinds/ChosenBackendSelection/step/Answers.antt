@@ -12,15 +12,15 @@ use Rattle.lb_script.proofs.kinds.ChosenBackendSelection.step.Goals.{in_default-
 pub returns-clause-step : goal.returns-clause-step
 returns-clause-step g c = elim c.match-self.branch [
   | in-Fnv-Weighted w ↦ rw (w.in-Fnv-Weighted.is-0, w.in-Fnv-Weighted.is-1, w.words-is, w.walk-is, w.result-is)
-      (rw w.deref.ensures at w.step.ensures.step)
+      w.step.ensures.step
   | in-RoundRobin-Weighted w ↦ rw (w.in-RoundRobin-Weighted.is-0, w.in-RoundRobin-Weighted.is-1, w.words-is, w.walk-is, w.result-is)
-      (rw w.deref-in-RoundRobin-Weighted.ensures at w.step-in-RoundRobin-Weighted.ensures.step)
+      w.step-in-RoundRobin-Weighted.ensures.step
   | in-Ketama-Ketama w ↦ rw (w.in-Ketama-Ketama.is-0, w.in-Ketama-Ketama.is-1, w.words-is, w.walk-is, w.result-is)
-      (rw w.deref-in-Ketama-Ketama.ensures at w.step-in-Ketama-Ketama.ensures.step)
+      w.step-in-Ketama-Ketama.ensures.step
   | in-Least-Least w ↦ rw (w.in-Least-Least.is-0, w.in-Least-Least.is-1, w.words-is, w.walk-is, w.result-is)
-      (rw w.deref-in-Least-Least.ensures at w.step-in-Least-Least.ensures.step)
+      w.step-in-Least-Least.ensures.step
   | in-Random-Weighted w ↦ rw (w.in-Random-Weighted.is-0, w.in-Random-Weighted.is-1, w.words-is, w.walk-is, w.result-is)
-      (rw w.deref-in-Random-Weighted.ensures at w.step-in-Random-Weighted.ensures.step)
+      w.step-in-Random-Weighted.ensures.step
   | in_default w ↦ elim w.in_default.branch [
     | in_default-via-in-Fnv+in_default v ↦ absurd (is_weighted _ (rw v.in_default.is-0 at c.requires) v.in_default.not-Weighted-1)
     | in_default-via-in-RoundRobin+in_default v ↦ absurd (is_weighted _ (rw v.in_default.is-0 at c.requires) v.in_default.not-Weighted-1)

@@ -3,4 +3,4 @@ use Rattle.lb_select.proofs.ketama.KetamaHashingBackendSelection.step.Goals as g
 
 -- nothing is drawn
 pub returns-clause-step : goal.returns-clause-step
-returns-clause-step g c = ([], refl, rw c.get.ensures c.advance-index.ensures.step)
+returns-clause-step g c = ([], refl, rw c.get.ensures c.advance-index.ensures)
