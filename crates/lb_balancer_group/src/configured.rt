@@ -56,23 +56,19 @@ impl<S: BackendSelection> SlotConfig<S> {
 /// A selector of a slot, which is built with the slot's configuration.
 #[derive(Drop)]
 pub struct Configured<S: BackendSelection> {
-    selector: Arc<S>,
+    selector: S,
 }
 
 impl<S: BackendSelection> BackendSelection for Configured<S> {
-    type Iter = S::Iter;
-
     type Config = SlotConfig<S>;
 
     type Walk = S::Walk;
 
-    ghost use Rattle.std.specs.Arc.{arc_value};
-
     ghost walks = { S.walks };
 
-    ghost members = { λ s. S.members (arc_value s.selector) };
+    ghost members = { λ s. S.members s.selector };
 
-    ghost built_with = { λ s. S.built_with (arc_value s.selector) };
+    ghost built_with = { λ s. S.built_with s.selector };
 
     ghost refusal = { S.refusal };
 
@@ -80,21 +76,20 @@ impl<S: BackendSelection> BackendSelection for Configured<S> {
 
     ghost may_draw_random = { S.may_draw_random };
 
-    ghost fits = { λ s w. S.fits (arc_value s.selector) w };
+    ghost fits = { λ s w. S.fits s.selector w };
 
-    ghost rest = { λ s w. S.rest (arc_value s.selector) w };
+    ghost rest = { λ s w. S.rest s.selector w };
 
     ghost undrawn = { S.undrawn };
 
     ghost few_words = { S.few_words };
 
-    ghost rest_starts = { λ s w. S.rest_starts (arc_value s.selector) w };
+    ghost rest_starts = { λ s w. S.rest_starts s.selector w };
 
-    ghost rest_ends = { λ s w. S.rest_ends (arc_value s.selector) w };
+    ghost rest_ends = { λ s w. S.rest_ends s.selector w };
 
     fn build(alloc: Global, backends: &BTreeSet<Backend>) -> Result<Configured<S>, Refusal> {
         let selector = S::build(alloc, backends)?;
-        let selector = Arc::new(alloc, selector)?;
         Ok(Configured { selector })
     }
 
@@ -107,17 +102,7 @@ impl<S: BackendSelection> BackendSelection for Configured<S> {
             Some(config) => S::build_with_config(alloc, backends, &**config)?,
             None => S::build(alloc, backends)?,
         };
-        let selector = Arc::new(alloc, selector)?;
         Ok(Configured { selector })
-    }
-
-    fn iter<W: WordSource>(
-        of: &Arc<Configured<S>>,
-        key: &[u8],
-        words: &mut W,
-    ) -> Result<S::Iter, Refusal> {
-        let configured: &Configured<S> = &**of;
-        S::iter(&configured.selector, key, words)
     }
 
     fn start<W: WordSource>(&self, key: &[u8], words: &mut W) -> Result<S::Walk, Refusal> {

@@ -1,6 +1,4 @@
 //! A selector that is counted while it lives, and whose build can be held. It is built and walks as the selector in it does.
-ghost use Rattle.std.specs.Arc.{arc_value};
-
 use lb_select::selection::RoundRobin;
 use lb_select_base::backend::Backend;
 use lb_select_base::refusal::Refusal;
@@ -59,7 +57,7 @@ impl<W, C> Model for Counting<W, C> {
 
 /// A selector that is counted from its build to its drop.
 pub struct Counted<W: Clock + Drop, S: BackendSelection = RoundRobin> {
-    selector: Arc<S>,
+    selector: S,
     counts: Option<Arc<Counts<W>>>,
 }
 
@@ -89,19 +87,15 @@ fn begin<W: Clock>(counts: &Counts<W>) {
 }
 
 impl<W: Clock + Drop, S: BackendSelection> BackendSelection for Counted<W, S> {
-    type Iter = S::Iter;
-
     type Config = Counting<W, S::Config>;
 
     type Walk = S::Walk;
 
-    ghost use Rattle.std.specs.Arc.{arc_value};
-
     ghost walks = { S.walks };
 
-    ghost members = { λ s. S.members (arc_value s.selector) };
+    ghost members = { λ s. S.members s.selector };
 
-    ghost built_with = { λ s. S.built_with (arc_value s.selector) };
+    ghost built_with = { λ s. S.built_with s.selector };
 
     ghost refusal = { S.refusal };
 
@@ -109,21 +103,20 @@ impl<W: Clock + Drop, S: BackendSelection> BackendSelection for Counted<W, S> {
 
     ghost may_draw_random = { S.may_draw_random };
 
-    ghost fits = { λ s w. S.fits (arc_value s.selector) w };
+    ghost fits = { λ s w. S.fits s.selector w };
 
-    ghost rest = { λ s w. S.rest (arc_value s.selector) w };
+    ghost rest = { λ s w. S.rest s.selector w };
 
     ghost undrawn = { S.undrawn };
 
     ghost few_words = { S.few_words };
 
-    ghost rest_starts = { λ s w. S.rest_starts (arc_value s.selector) w };
+    ghost rest_starts = { λ s w. S.rest_starts s.selector w };
 
-    ghost rest_ends = { λ s w. S.rest_ends (arc_value s.selector) w };
+    ghost rest_ends = { λ s w. S.rest_ends s.selector w };
 
     fn build(alloc: Global, backends: &BTreeSet<Backend>) -> Result<Counted<W, S>, Refusal> {
         let selector = S::build(alloc, backends)?;
-        let selector = Arc::new(alloc, selector)?;
         Ok(Counted {
             selector,
             counts: None,
@@ -136,7 +129,6 @@ impl<W: Clock + Drop, S: BackendSelection> BackendSelection for Counted<W, S> {
         counting: &Counting<W, S::Config>,
     ) -> Result<Counted<W, S>, Refusal> {
         let selector = S::build_with_config(alloc, backends, &counting.config)?;
-        let selector = Arc::new(alloc, selector)?;
         let counts = match &counting.counts {
             Some(counts) => Some(counts.clone()?),
             None => None,
@@ -145,15 +137,6 @@ impl<W: Clock + Drop, S: BackendSelection> BackendSelection for Counted<W, S> {
             begin(&**counts);
         }
         Ok(Counted { selector, counts })
-    }
-
-    fn iter<W2: WordSource>(
-        of: &Arc<Counted<W, S>>,
-        key: &[u8],
-        words: &mut W2,
-    ) -> Result<S::Iter, Refusal> {
-        let counted: &Counted<W, S> = &**of;
-        S::iter(&counted.selector, key, words)
     }
 
     fn start<W2: WordSource>(&self, key: &[u8], words: &mut W2) -> Result<S::Walk, Refusal> {

@@ -4,6 +4,7 @@ ghost use Rattle.std.specs.Prelude.{ℕ, List};
 ghost use Rattle.lb_select_base.specs.Selections.{walks_of};
 ghost use Rattle.lb_select.specs.UniqueWalks.{TurnsAreOneWalk};
 
+use lb_select_base::iter::Iter;
 use lb_select_base::walk::{BackendIter, BackendSelection};
 use lb_select_base::words::WordSource;
 
@@ -16,6 +17,6 @@ pub fn unique_walk_law<I: BackendIter, W: WordSource>()
 /// Such turns over the walk that a selector gave for a key find the distinct of the first `max_iterations` candidates of one of the
 /// selector's walks, and what `Iter::new` and the turns drew are that walk's draws.
 pub fn unique_selection_law<S: BackendSelection, W: WordSource>()
-    ensures { (s : S) (key : List ℕ) → TurnsAreOneWalk W.gives (λ i. S.rest i.selector i.walk)
+    ensures { (s : S) (key : List ℕ) → TurnsAreOneWalk W.gives ⟦<Iter<S> as BackendIter>⟧.walk
         (walks_of S.BackendSelection s key) }
 {}
