@@ -62,16 +62,16 @@ taken-some made slot n h there own unread = rw (lt-ltb slot (length made.configs
 cause-is : (a b : Refusal) → (let x : Option Refusal = Some a in let y : Option Refusal = Some b in x ≡ y) → a ≡ b
 cause-is a b e = cc
 
-module _ {S I C W K P : Type 0} (refuses : List Member → C → Option Refusal) (reads ends : K → ℕ → K → Type 0)
+module _ {S C W K P : Type 0} (refuses : List Member → C → Option Refusal) (reads ends : K → ℕ → K → Type 0)
     (core_of : P → GroupValue C) (gate_of : P → GateValue)
     (taken : P → ℕ → Result RetiredValue Refusal → P → Type 0) (reported : P → ℕ → PermitValue → P → Type 0)
-    (asked : P → ℕ → ℕ → Result (Ask S I C W) Refusal → P → Type 0)
+    (asked : P → ℕ → ℕ → Result (Ask S C W) Refusal → P → Type 0)
     (published : P → BuiltValue C → Publication → P → Type 0) (failed : P → RefusedValue C → ℕ → P → Type 0)
     (taken_is : (p : P) (s : ℕ) (a : Result RetiredValue Refusal) (q : P) → taken p s a q → IsTaken (core_of p) s a (core_of q)
     × (gate_of q ≡ gate_of p))
     (reported_is : (p : P) (s : ℕ) (x : PermitValue) (q : P) → reported p s x q
     → Becomes (core_of p) (in_group (core.At s core.Destroyed ∷ [])) (core_of q) × ((gate_of q).out ≡ false))
-    (asked_is : (p : P) (s now : ℕ) (a : Result (Ask S I C W) Refusal) (q : P) → asked p s now a q
+    (asked_is : (p : P) (s now : ℕ) (a : Result (Ask S C W) Refusal) (q : P) → asked p s now a q
     → IsAsked (core_of p) (gate_of p) s now a (core_of q) (gate_of q))
     (published_is : (p : P) (b : BuiltValue C) (u : Publication) (q : P) → published p b u q → IsPublished (core_of p) b u (core_of q))
     (failed_is : (p : P) (r : RefusedValue C) (now : ℕ) (q : P) → failed p r now q
@@ -145,7 +145,7 @@ module _ {S I C W K P : Type 0} (refuses : List Member → C → Option Refusal)
         (out || is_extra (extra Before)) (due_moment Before)
         (cancelled-past slot Events ∙ due.live) (ap is_flight bare) due.waits early
 
-    answered : (now : ℕ) (m n q : P) (k l : K) (a : Result (Ask S I C W) Refusal) (r : Result Turn Refusal) → Stands made e (core_of m)
+    answered : (now : ℕ) (m n q : P) (k l : K) (a : Result (Ask S C W) Refusal) (r : Result Turn Refusal) → Stands made e (core_of m)
         → ask_answer Before (gate_of m).out now ≡ job → IsAsked (core_of m) (gate_of m) slot now a (core_of n) (gate_of n)
         → Answered refuses reads ends taken reported asked published failed slot a n k r q l → EndsTurn made e slot r (core_of q)
     answered now m n q k l (Err x) r s is_job given next = let past = (given.0 made e s).1 in let there = due.there
@@ -158,7 +158,7 @@ module _ {S I C W K P : Type 0} (refuses : List Member → C → Option Refusal)
     answered now m n q k l (Ok (asks.Job j)) (Ok t) s is_job given next = flown j now n q k l t (given.0 made e s).2 (given.1 made e s) next
     answered now m n q k l (Ok (asks.Job j)) (Err x) s is_job given next = absurd next
 
-    waited : (now d : ℕ) (m n q : P) (k l : K) (a : Result (Ask S I C W) Refusal) (r : Result Turn Refusal) → Stands made e (core_of m)
+    waited : (now d : ℕ) (m n q : P) (k l : K) (a : Result (Ask S C W) Refusal) (r : Result Turn Refusal) → Stands made e (core_of m)
         → ask_answer Before (gate_of m).out now ≡ not_due d → IsAsked (core_of m) (gate_of m) slot now a (core_of n) (gate_of n)
         → Answered refuses reads ends taken reported asked published failed slot a n k r q l → r ≡ Ok (turn.NotDue d)
     waited now d m n q k l (Err x) r s waits_ given next = let past = (given.0 made e s).1 in let there = due.there

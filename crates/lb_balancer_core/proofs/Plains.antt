@@ -55,8 +55,8 @@ module _ {C : Type 0} where
   enters_own v w slot (Ok r) (made, (e, s)) answers stands own =
       (own, (made, (_, (stands made e s, read-entered made (slot_events e) slot r (answers made e s)))))
 
-module _ {S I C W : Type 0} where
-  pub asks_own : (v w : GroupValue C) (slot now : ℕ) (out : Bool) (a : Result (Ask S I C W) Refusal) → Past v
+module _ {S C W : Type 0} where
+  pub asks_own : (v w : GroupValue C) (slot now : ℕ) (out : Bool) (a : Result (Ask S C W) Refusal) → Past v
       → After v (λ m f. Asks m (slot_events f) slot out now a) → Becomes v (in_group (ask_events slot now a)) w
       → IfOk a (λ b. IsOwnJob w.group b) → IfJob a (λ j. OwnsJob w j)
   asks_own v w slot now out (Err r) past answers stands own = tt

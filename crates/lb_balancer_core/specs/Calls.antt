@@ -9,7 +9,7 @@ use Rattle.lb_rebuild_core.specs.declared.answers.Ask.{Ask}
 use Rattle.lb_rebuild_core.specs.declared.answers.Ask.TheVariants as asked
 
 -- what holds of the job that was answered
-abbrev pub IfJob : {S I C W : Type 0} → Result (Ask S I C W) Refusal → (Task C → Type 0) → Type 0
+abbrev pub IfJob : {S C W : Type 0} → Result (Ask S C W) Refusal → (Task C → Type 0) → Type 0
 IfJob (Ok asked.Cancelled) P = Unit {0}
 IfJob (Ok asked.Building) P = Unit {0}
 IfJob (Ok asked.Nothing) P = Unit {0}

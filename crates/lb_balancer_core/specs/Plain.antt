@@ -72,8 +72,8 @@ module _ {C : Type 0} where
   IsDrawn v s load_by r (draws.random x) w u = ((x, u) ≡ next_u64 s) × (w ≡ v)
   IsDrawn v s load_by r (draws.load m l) w u = (l ≡ load_by m) × (w ≡ v) × (u ≡ s)
 
-module _ {S I C W : Type 0} where
-  abbrev pub IsAsked : GroupValue C → GateValue → ℕ → ℕ → Result (Ask S I C W) Refusal → GroupValue C → GateValue → Type 0
+module _ {S C W : Type 0} where
+  abbrev pub IsAsked : GroupValue C → GateValue → ℕ → ℕ → Result (Ask S C W) Refusal → GroupValue C → GateValue → Type 0
   IsAsked v g slot now r w k =
       After v (λ made e. Asks made (slot_events e) slot g.out now r)
       × Becomes v (in_group (ask_events slot now r)) w × SameSite v w × (k ≡ gate_after r g)

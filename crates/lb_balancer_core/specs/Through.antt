@@ -60,9 +60,9 @@ abbrev pub turn_of : Publication → Turn
 turn_of (told.Published n) = turn.Published n
 turn_of (told.Abandoned n) = turn.Abandoned n
 
-module _ {S I C W K P : Type 0} (refuses : List Member → C → Option Refusal) (reads ends : K → ℕ → K → Type 0)
+module _ {S C W K P : Type 0} (refuses : List Member → C → Option Refusal) (reads ends : K → ℕ → K → Type 0)
     (taken : P → ℕ → Result RetiredValue Refusal → P → Type 0) (reported : P → ℕ → PermitValue → P → Type 0)
-    (asked : P → ℕ → ℕ → Result (Ask S I C W) Refusal → P → Type 0)
+    (asked : P → ℕ → ℕ → Result (Ask S C W) Refusal → P → Type 0)
     (published : P → BuiltValue C → Publication → P → Type 0) (failed : P → RefusedValue C → ℕ → P → Type 0) (slot : ℕ) where
   -- the job was built, which ended at the next reading, one that borrowed what was built, and was published
   abbrev pub Publishes : Task C → P → K → Turn → P → K → Type 0
@@ -81,7 +81,7 @@ module _ {S I C W K P : Type 0} (refuses : List Member → C → Option Refusal)
   Ends a p k r q l = (r ≡ a) × (q ≡ p) × (l ≡ k)
 
   -- what follows an answer to the ask
-  abbrev pub Answered : Result (Ask S I C W) Refusal → P → K → Result Turn Refusal → P → K → Type 0
+  abbrev pub Answered : Result (Ask S C W) Refusal → P → K → Result Turn Refusal → P → K → Type 0
   Answered (Ok (asks.Job j)) p k (Ok t) q l = Publishes j p k t q l ⊎ Fails j p k t q l
   Answered (Ok (asks.Job j)) p k (Err e) q l = ⊥
   Answered (Ok asks.Cancelled) p k r q l = Ends (Ok turn.Cancelled) p k r q l
@@ -95,7 +95,7 @@ module _ {S I C W K P : Type 0} (refuses : List Member → C → Option Refusal)
   abbrev pub Asks : P → K → Result Turn Refusal → P → K → Type 0
   Asks p k r q l =
       (now : ℕ) × (m : K) × reads k now m
-      × (a : Result (Ask S I C W) Refusal) × (n : P) × asked p slot now a n × Answered a n m r q l
+      × (a : Result (Ask S C W) Refusal) × (n : P) × asked p slot now a n × Answered a n m r q l
 
   -- what follows a try to take the retired selector: it is reported destroyed where it could be taken
   abbrev pub Clears : Result RetiredValue Refusal → P → K → Result Turn Refusal → P → K → Type 0

@@ -5,7 +5,6 @@ use denote.Struct.Declared.{shape}
 use denote.Param.Send.{IsSend, IsSync, sendable, struct_send, struct_sync, recorded_send, recorded_sync}
 use Rattle.std.proofs.Crossing.{crosses, Arc-send, Arc-sync}
 use Rattle.lb_select_base.specs.declared.walk.BackendSelection.{Ghosts as Selection}
-use Rattle.lb_select_base.specs.declared.walk.BackendIter.{Ghosts as Iter}
 use Rattle.lb_health_core.specs.declared.keys.KeyRule.{Ghosts as Keys}
 use Rattle.lb_health_view.proofs.discovery.DiscoverySource.TheSendSync as discovery
 use Rattle.lb_threads_core.proofs.registry.HealthRegistry.TheSendSync as registry
@@ -19,17 +18,17 @@ use Rattle.lb_balancer_group.proofs.configured.Configured.TheSendSync as configu
 use Rattle.lb_balancer_group.proofs.configured.SlotConfig.TheSendSync as config
 use Rattle.lb_balancer_group.specs.contracts.group.LoadBalancerGroup as handle
 
-module _ (T D R H I C W : RattleType) (g : Selection T.Denot I.Denot C.Denot W.Denot) (h : Iter I.Denot) (k : Keys R.Denot) (s : IsSend T)
+module _ (T D R H C W : RattleType) (g : Selection T.Denot C.Denot W.Denot) (k : Keys R.Denot) (s : IsSend T)
     (sc : IsSend C) (y : IsSync T) (yc : IsSync C) (sd : IsSend D) (yd : IsSync D) (sr : IsSend R) (yr : IsSync R) (sh : IsSend H)
     (yh : IsSync H) where
   abbrev served : RattleType
-  served = Configured.the_row T I C W
+  served = Configured.the_row T C W
 
   abbrev given : RattleType
-  given = SlotConfig.the_row T I C W g h
+  given = SlotConfig.the_row T C W g
 
-  abbrev slot_ghosts : Selection served.Denot I.Denot given.Denot W.Denot
-  slot_ghosts = chosen.ghosts T I C W g no_dict h no_dict no_dict no_dict no_dict no_dict
+  abbrev slot_ghosts : Selection served.Denot given.Denot W.Denot
+  slot_ghosts = chosen.ghosts T C W g no_dict no_dict no_dict no_dict no_dict
 
   served_send : IsSend served
   served_send = search (sendable, crosses, configured.the_send, s, y) depth 20
@@ -43,18 +42,18 @@ module _ (T D R H I C W : RattleType) (g : Selection T.Denot I.Denot C.Denot W.D
   given_sync : IsSync given
   given_sync = search (sendable, crosses, config.the_sync, sc, yc) depth 20
 
-  group_send : IsSend (shared.the_row served R H I given W slot_ghosts h k)
+  group_send : IsSend (shared.the_row served R H given W slot_ghosts k)
   group_send =
-      shared_send served R H I given W slot_ghosts h k served_send given_send served_sync
+      shared_send served R H given W slot_ghosts k served_send given_send served_sync
       given_sync sr yr sh yh
 
-  group_sync : IsSync (shared.the_row served R H I given W slot_ghosts h k)
+  group_sync : IsSync (shared.the_row served R H given W slot_ghosts k)
   group_sync =
-      shared_sync served R H I given W slot_ghosts h k served_send given_send served_sync
+      shared_sync served R H given W slot_ghosts k served_send given_send served_sync
       given_sync sr yr sh yh
 
-  fields_send : IsSend (handle.the_field T D R H I C W g h k).row
-  fields_send = struct_send (shape (handle.the_type T D R H I C W g h k)) (
+  fields_send : IsSend (handle.the_field T D R H C W g k).row
+  fields_send = struct_send (shape (handle.the_type T D R H C W g k)) (
     search (sendable, crosses, discovery.the_field_send) depth 20,
     (
       search (sendable, crosses, registry.the_send, registry.the_sync) depth 20,
@@ -74,11 +73,11 @@ module _ (T D R H I C W : RattleType) (g : Selection T.Denot I.Denot C.Denot W.D
     ),
   )
 
-  pub handle_send : IsSend (handle.the_row T D R H I C W g h k)
-  handle_send = recorded_send (handle.the_field T D R H I C W g h k).row _ _ (handle.the_type T D R H I C W g h k).to_one fields_send
+  pub handle_send : IsSend (handle.the_row T D R H C W g k)
+  handle_send = recorded_send (handle.the_field T D R H C W g k).row _ _ (handle.the_type T D R H C W g k).to_one fields_send
 
-  fields_sync : IsSync (handle.the_field T D R H I C W g h k).row
-  fields_sync = struct_sync (shape (handle.the_type T D R H I C W g h k)) (
+  fields_sync : IsSync (handle.the_field T D R H C W g k).row
+  fields_sync = struct_sync (shape (handle.the_type T D R H C W g k)) (
     search (sendable, crosses, discovery.the_field_sync) depth 20,
     (
       search (sendable, crosses, registry.the_send, registry.the_sync) depth 20,
@@ -98,5 +97,5 @@ module _ (T D R H I C W : RattleType) (g : Selection T.Denot I.Denot C.Denot W.D
     ),
   )
 
-  pub handle_sync : IsSync (handle.the_row T D R H I C W g h k)
-  handle_sync = recorded_sync (handle.the_field T D R H I C W g h k).row _ _ (handle.the_type T D R H I C W g h k).to_one fields_sync
+  pub handle_sync : IsSync (handle.the_row T D R H C W g k)
+  handle_sync = recorded_sync (handle.the_field T D R H C W g k).row _ _ (handle.the_type T D R H C W g k).to_one fields_sync

@@ -35,7 +35,6 @@ impl<
     C: HealthCheck + Drop + Send + Sync + 'static,
 > LoadBalancerGroup<S, D, R, C>
 where
-    S::Iter: Send + Sync + 'static,
     S::Config: Send + Sync + 'static,
     S::Walk: Send + Sync + 'static,
 {
@@ -57,7 +56,6 @@ impl<
     C: HealthCheck + Drop + Send + Sync + 'static,
 > LoadBalancerGroup<S, D, R, C>
 where
-    S::Iter: Send + Sync + 'static,
     S::Config: Send + Sync + 'static,
     S::Walk: Send + Sync + 'static,
 {

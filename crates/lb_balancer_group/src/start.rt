@@ -21,7 +21,6 @@ pub fn start_workers<
     K: MomentSource + Copy + Send + 'static,
 >(rt: &W, alloc: Global, group: &Arc<SharedGroup<S, R, C>>, clock: K) -> usize
 where
-    S::Iter: Send + Sync + 'static,
     S::Config: Send + Sync + 'static,
     S::Walk: Send + Sync + 'static,
 {
@@ -62,7 +61,6 @@ fn starts_worker<
     K: MomentSource + Copy + Send + 'static,
 >(rt: &W, alloc: Global, group: &Arc<SharedGroup<S, R, C>>, slot: usize, clock: K) -> bool
 where
-    S::Iter: Send + Sync + 'static,
     S::Config: Send + Sync + 'static,
     S::Walk: Send + Sync + 'static,
 {

@@ -181,7 +181,6 @@ pub(crate) fn made<
     R: Log + Threads + Wait + Clock + Copy + Send + Sync + 'static,
 >(rt: &R, alloc: Global, backends: u32, slots: u32) -> Result<Group<S>, Refusal>
 where
-    S::Iter: Send + Sync + 'static,
     S::Config: Send + Sync + 'static,
     S::Walk: Send + Sync + 'static,
 {
@@ -224,7 +223,6 @@ fn all_selected<
     R: Log + Threads + Wait + Clock + Copy + Send + Sync + 'static,
 >(rt: &R, alloc: Global, plan: Plan) -> Result<u64, Refusal>
 where
-    S::Iter: Send + Sync + 'static,
     S::Config: Send + Sync + 'static,
     S::Walk: Send + Sync + 'static,
 {

@@ -85,7 +85,6 @@ fn measured<
     R: Log + Threads + Wait + Clock + Copy + Send + Sync + 'static,
 >(rt: &R, alloc: Global, slots: u32, updates: u32) -> Result<Spent, Refusal>
 where
-    S::Iter: Send + Sync + 'static,
     S::Config: Send + Sync + 'static,
     S::Walk: Send + Sync + 'static,
 {

@@ -207,7 +207,6 @@ fn all_selected<S: BackendSelection + Send + Sync, R: Threads + Wait + Sync>(
     plan: Plan,
 ) -> Result<u64, Refusal>
 where
-    S::Iter: Send + Sync,
     S::Config: Send + Sync,
     S::Walk: Send + Sync,
 {
@@ -223,7 +222,6 @@ fn measured<S: BackendSelection + Send + Sync, R: Threads + Wait + Clock + Copy 
     plan: Plan,
 ) -> Result<(u64, u128), Refusal>
 where
-    S::Iter: Send + Sync,
     S::Config: Send + Sync,
     S::Walk: Send + Sync,
 {

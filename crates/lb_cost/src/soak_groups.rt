@@ -250,7 +250,6 @@ pub fn starts<
     S: BackendSelection + Send + Sync + 'static,
 >(rt: &W, alloc: Global, group: &Handle<W, S>) -> bool
 where
-    S::Iter: Send + Sync + 'static,
     S::Config: Send + Sync + 'static,
     S::Walk: Send + Sync + 'static,
 {

@@ -226,7 +226,6 @@ pub fn start_user<
     tally: &Arc<Tally>,
 ) -> Option<JoinHandle<bool>>
 where
-    S::Iter: Send + Sync + 'static,
     S::Config: Send + Sync + 'static,
     S::Walk: Send + Sync + 'static,
 {

@@ -51,7 +51,6 @@ pub(crate) fn starts<
     W: Threads + Wait + Clock + Copy + Send + 'static,
 >(rt: &W, alloc: Global, group: &Arc<SharedGroup<S, R, C>>, work: Work) -> Option<JoinHandle<u64>>
 where
-    S::Iter: Send + Sync + 'static,
     S::Config: Send + Sync + 'static,
     S::Walk: Send + Sync + 'static,
 {

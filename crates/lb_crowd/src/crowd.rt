@@ -358,7 +358,6 @@ fn starts_reader<
     last: u64,
 ) -> Option<JoinHandle<bool>>
 where
-    S::Iter: Send + Sync + 'static,
     S::Config: Send + Sync + 'static,
     S::Walk: Send + Sync + 'static,
 {
@@ -398,7 +397,6 @@ pub fn crowd_in<
     clock: &mut K,
 ) -> bool
 where
-    S::Iter: Send + Sync + 'static,
     S::Config: Send + Sync + 'static,
     S::Walk: Send + Sync + 'static,
 {

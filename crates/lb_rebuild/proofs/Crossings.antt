@@ -7,7 +7,6 @@ use Rattle.std.proofs.Crossing.{crosses}
 use Rattle.std.proofs.MapsCrossing as maps
 use Rattle.std.proofs.MapsCrossingOver as sets
 use Rattle.lb_select_base.specs.declared.walk.BackendSelection.{Ghosts as Selection}
-use Rattle.lb_select_base.specs.declared.walk.BackendIter.{Ghosts as Iter}
 use Rattle.lb_select_base.proofs.backend.Backend.TheSendSync as backend
 use Rattle.lb_health_view.proofs.view.ViewCore.TheSendSync as view
 use Rattle.lb_rebuild_core.proofs.gate.Permit.TheSendSync as permit
@@ -27,13 +26,13 @@ use Rattle.lb_rebuild.proofs.board.WritingPass.TheSendSync as writer
 use Rattle.lb_rebuild.specs.contracts.watched.Watched as watched
 use Rattle.lb_rebuild.specs.contracts.watched.Watched.TheInside as watched_inside
 
-module _ (T I C W : RattleType) (g : Selection T.Denot I.Denot C.Denot W.Denot) (h : Iter I.Denot) (s : IsSend T) (sc : IsSend C)
+module _ (T C W : RattleType) (g : Selection T.Denot C.Denot W.Denot) (s : IsSend T) (sc : IsSend C)
     (y : IsSync T) (yc : IsSync C) where
-  stage_send : IsSend (stage.the_field T I C W g h).row
+  stage_send : IsSend (stage.the_field T C W g).row
   stage_send = search (sendable, serving.the_send, permit.the_send) depth 20
 
-  slot_fields : IsSend (slot.the_field T I C W g h).row
-  slot_fields = struct_send (shape (slot.the_type T I C W g h)) (
+  slot_fields : IsSend (slot.the_field T C W g).row
+  slot_fields = struct_send (shape (slot.the_type T C W g)) (
     search (sendable, crosses) depth 10,
     (
       search (sendable, serving.the_send) depth 10,
@@ -68,12 +67,12 @@ module _ (T I C W : RattleType) (g : Selection T.Denot I.Denot C.Denot W.Denot) 
     ),
   )
 
-  slot_send : IsSend (slot.the_row T I C W g h)
-  slot_send = recorded_send (slot.the_field T I C W g h).row _ _ (slot.the_type T I C W g h).to_one slot_fields
+  slot_send : IsSend (slot.the_row T C W g)
+  slot_send = recorded_send (slot.the_field T C W g).row _ _ (slot.the_type T C W g).to_one slot_fields
 
-  group_fields : IsSend (group_inside.the_row T I C W g h)
-  group_fields = recorded_send (group_inside.the_field T I C W g h).row _ _ (group_inside.the_type T I C W g h).to_one
-      (struct_send (shape (group_inside.the_type T I C W g h)) (
+  group_fields : IsSend (group_inside.the_row T C W g)
+  group_fields = recorded_send (group_inside.the_field T C W g).row _ _ (group_inside.the_type T C W g).to_one
+      (struct_send (shape (group_inside.the_type T C W g)) (
         search (sendable, identity.the_send) depth 10,
         (
           search (sendable, crosses) depth 10,
@@ -90,25 +89,25 @@ module _ (T I C W : RattleType) (g : Selection T.Denot I.Denot C.Denot W.Denot) 
         ),
       ))
 
-  group_send : IsSend (slots.the_row T I C W g h)
+  group_send : IsSend (slots.the_row T C W g)
   group_send = view_send _ _ _ _ _ group_fields
 
-  joined_fields : IsSend (joined_inside.the_row T I C W g h)
-  joined_fields = recorded_send (joined_inside.the_field T I C W g h).row _ _ (joined_inside.the_type T I C W g h).to_one
-      (struct_send (shape (joined_inside.the_type T I C W g h)) (
+  joined_fields : IsSend (joined_inside.the_row T C W g)
+  joined_fields = recorded_send (joined_inside.the_field T C W g).row _ _ (joined_inside.the_type T C W g).to_one
+      (struct_send (shape (joined_inside.the_type T C W g)) (
         search (sendable, group_send) depth 10,
         (search (sendable, view.the_send) depth 20, (search (sendable, crosses) depth 10, tt)),
       ))
 
-  joined_send : IsSend (group.the_row T I C W g h)
+  joined_send : IsSend (group.the_row T C W g)
   joined_send = view_send _ _ _ _ _ joined_fields
 
-  watched_fields : IsSend (watched_inside.the_row T I C W g h)
-  watched_fields = recorded_send (watched_inside.the_field T I C W g h).row _ _ (watched_inside.the_type T I C W g h).to_one
-      (struct_send (shape (watched_inside.the_type T I C W g h)) (
+  watched_fields : IsSend (watched_inside.the_row T C W g)
+  watched_fields = recorded_send (watched_inside.the_field T C W g).row _ _ (watched_inside.the_type T C W g).to_one
+      (struct_send (shape (watched_inside.the_type T C W g)) (
         search (sendable, joined_send) depth 10,
         (search (sendable, writer.the_send) depth 10, (search (sendable, crosses, board.the_send, board.the_sync) depth 20, tt)),
       ))
 
-  pub watched_send : IsSend (watched.the_row T I C W g h)
+  pub watched_send : IsSend (watched.the_row T C W g)
   watched_send = view_send _ _ _ _ _ watched_fields

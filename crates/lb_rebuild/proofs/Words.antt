@@ -245,7 +245,7 @@ quiet_asked slot now (slots.not_due m) = tt
 quiet_asked slot now slots.busy = tt
 quiet_asked slot now slots.job = (record { newest = λ h. refl; served = λ h. refl }, tt)
 
-pub quiet_ask : {S I C W : Type 0} (slot now : ℕ) (r : Result (Ask S I C W) Refusal) → AreQuiet (ask_events slot now r)
+pub quiet_ask : {S C W : Type 0} (slot now : ℕ) (r : Result (Ask S C W) Refusal) → AreQuiet (ask_events slot now r)
 quiet_ask slot now (Ok a) = quiet_asked slot now (ask_told a)
 quiet_ask slot now (Err e) = tt
 

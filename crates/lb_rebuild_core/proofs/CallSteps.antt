@@ -148,9 +148,9 @@ gate-stays (not_due m) g k e = ap (λ (v : GateValue). v.id) e
 gate-stays busy g k e = ap (λ (v : GateValue). v.id) e
 gate-stays job g k e = ap (λ (v : GateValue). v.id) e
 
-module _ {S I C W : Type 0} where
+module _ {S C W : Type 0} where
   -- a job that goes out is the group's own
-  pub own-job : (made : Made C) (h k : History) (slot : ℕ) (a : Ask S I C W) (v : SlotsValue C) → StandsFor made k v → JobIs made h slot a
+  pub own-job : (made : Made C) (h k : History) (slot : ℕ) (a : Ask S C W) (v : SlotsValue C) → StandsFor made k v → JobIs made h slot a
       → IsOwnJob v a
   own-job made h k slot asked.Cancelled v s is = tt
   own-job made h k slot asked.Building v s is = tt
@@ -179,8 +179,8 @@ module _ {C : Type 0} where
   entered-own made h k slot (Ok q) v s is = is.5 ∙ sym (id-made s)
   entered-own made h k slot (Err e) v s is = tt
 
-module _ {S I C W : Type 0} {made : Made C} {h : History} {own : GroupId} {id : GateId} {n : ℕ} {ms : List Member} {at : ℕ} {st : Bool}
-    {xs : List (Slot S I C W)} {i : ℕ} {x y : Slot S I C W}
+module _ {S C W : Type 0} {made : Made C} {h : History} {own : GroupId} {id : GateId} {n : ℕ} {ms : List Member} {at : ℕ} {st : Bool}
+    {xs : List (Slot S C W)} {i : ℕ} {x y : Slot S C W}
     (f : Facing made h own id n ms at st xs i x y) where
   abbrev Past : History
   Past = past_of i h
@@ -207,7 +207,7 @@ module _ {S I C W : Type 0} {made : Made C} {h : History} {own : GroupId} {id : 
       (slot_after made.gate f.config Past) f.newest_is f.moment f.slot
       ∙ granted-step made.gate f.config i now Past (f.past, may))
 
-  job-is : (a : Ask S I C W) (p : PlaceValue) (g : GateId) → p ≡ record { group = made.id; slot = i } → g ≡ made.gate
+  job-is : (a : Ask S C W) (p : PlaceValue) (g : GateId) → p ≡ record { group = made.id; slot = i } → g ≡ made.gate
       → IsJobOf p g (slot_value x) a → JobIs made h i a
   job-is asked.Cancelled p g u e is = tt
   job-is asked.Building p g u e is = tt
@@ -249,7 +249,7 @@ module _ {S I C W : Type 0} {made : Made C} {h : History} {own : GroupId} {id : 
   pub extra-shown : is_extra (extra Past) ≡ true → is_extra (extra_of x.stage) ≡ true
   extra-shown is = ap (λ (z : SlotValue C). is_extra z.extra) f.slot ∙ is
 
-  pub asks : (a : Ask S I C W) (out : Bool) (now : ℕ) (p : PlaceValue) (g : GateId) → p ≡ record { group = made.id; slot = i }
+  pub asks : (a : Ask S C W) (out : Bool) (now : ℕ) (p : PlaceValue) (g : GateId) → p ≡ record { group = made.id; slot = i }
       → g ≡ made.gate
       → ask_told a ≡ slot_answer n st out now (slot_value x) → IsJobOf p g (slot_value x) a → Asks made h i out now (Ok a)
   asks a out now p g u e is at_ = (f.inside, is ∙ answer-is out now, job-is a p g u e at_)

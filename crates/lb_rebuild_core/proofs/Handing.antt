@@ -19,21 +19,21 @@ last_at : {A : Type 0} (xs : List A) (b d : A) → get_or (xs ++ b ∷ []) (leng
 last_at [] b d = refl
 last_at (a ∷ xs) b d = last_at xs b d
 
-module _ {S I C W : Type 0} where
+module _ {S C W : Type 0} where
   -- y is the slot x with the order o
-  pub record IsOrdered (newest : ℕ) (x : Slot S I C W) (o : OrderValue C) (y : Slot S I C W) : Type 0 where
+  pub record IsOrdered (newest : ℕ) (x : Slot S C W) (o : OrderValue C) (y : Slot S C W) : Type 0 where
     pub is : slot_value y ≡ ordered_slot newest o (slot_value x)
 
   -- the orders that are left are the first ones, their slots are as they were, and the others have theirs
-  pub record HandsOut (newest : ℕ) (xs : List (Slot S I C W)) (all left : List (OrderValue C)) (ys : List (Slot S I C W)) : Type 0 where
+  pub record HandsOut (newest : ℕ) (xs : List (Slot S C W)) (all left : List (OrderValue C)) (ys : List (Slot S C W)) : Type 0 where
     pub count : length ys ≡ length xs
     pub few : length left ≤ length xs
     pub front : (k : ℕ) (o : OrderValue C) → k < length left → get_or left k o ≡ get_or all k o
-    pub rest : (k : ℕ) (d : Slot S I C W) → k < length left → get_or ys k d ≡ get_or xs k d
-    pub done : (k : ℕ) (d : Slot S I C W) (o : OrderValue C) → length left ≤ k → k < length xs
+    pub rest : (k : ℕ) (d : Slot S C W) → k < length left → get_or ys k d ≡ get_or xs k d
+    pub done : (k : ℕ) (d : Slot S C W) (o : OrderValue C) → length left ≤ k → k < length xs
         → IsOrdered newest (get_or xs k d) (get_or all k o) (get_or ys k d)
 
-  pub hands_first : (n : ℕ) (xs : List (Slot S I C W)) (all : List (OrderValue C)) → length all ≡ length xs → HandsOut n xs all all xs
+  pub hands_first : (n : ℕ) (xs : List (Slot S C W)) (all : List (OrderValue C)) → length all ≡ length xs → HandsOut n xs all all xs
   hands_first n xs all h = record {
     count = refl;
     few = omega arith;
@@ -42,7 +42,7 @@ module _ {S I C W : Type 0} where
     done = λ k d o l m. absurd (omega arith);
   }
 
-  pub hands_last : (n : ℕ) (xs : List (Slot S I C W)) (all left : List (OrderValue C)) (ys : List (Slot S I C W))
+  pub hands_last : (n : ℕ) (xs : List (Slot S C W)) (all left : List (OrderValue C)) (ys : List (Slot S C W))
       → HandsOut n xs all left ys → length left ≡ 0 → AreOrdered n xs all ys
   hands_last n xs all left ys h none = record {
     count = h.count;
@@ -50,8 +50,8 @@ module _ {S I C W : Type 0} where
   }
 
   -- one order more is handed out
-  pub hands_on : (n : ℕ) (xs : List (Slot S I C W)) (all left fewer : List (OrderValue C)) (ys : List (Slot S I C W)) (m : ℕ)
-      (o : OrderValue C) (x y : Slot S I C W)
+  pub hands_on : (n : ℕ) (xs : List (Slot S C W)) (all left fewer : List (OrderValue C)) (ys : List (Slot S C W)) (m : ℕ)
+      (o : OrderValue C) (x y : Slot S C W)
       → HandsOut n xs all left ys → left ≡ fewer ++ o ∷ [] → m ≡ length fewer → x ≡ get_or ys m x
       → slot_value y ≡ ordered_slot n o (slot_value x)
       → HandsOut n xs all fewer (set ys m y)
@@ -68,11 +68,11 @@ module _ {S I C W : Type 0} where
         done = λ k d e low high.
             dite (ℕ_discrete k m)
             (λ at. here k d e at)
-            (λ apart. subst (λ (z : Slot S I C W). IsOrdered n (get_or xs k d) (get_or all k e) z) (sym (get_or-set_other ys m k y d apart))
+            (λ apart. subst (λ (z : Slot S C W). IsOrdered n (get_or xs k d) (get_or all k e) z) (sym (get_or-set_other ys m k y d apart))
             (h.done k d e (omega (arith, size, low, apart, place)) high));
       }
     where
-      here : (k : ℕ) (d : Slot S I C W) (e : OrderValue C) → k ≡ m → IsOrdered n (get_or xs k d) (get_or all k e) (get_or (set ys m y) k d)
+      here : (k : ℕ) (d : Slot S C W) (e : OrderValue C) → k ≡ m → IsOrdered n (get_or xs k d) (get_or all k e) (get_or (set ys m y) k d)
       here k d e at =
           let size : length left ≡ length fewer + 1 = ap length split ∙ length-append fewer (o ∷ []) in
           let inside : m < length ys = omega (arith, size, place, h.count, h.few) in
@@ -84,6 +84,6 @@ module _ {S I C W : Type 0} where
           let set_is : y ≡ get_or (set ys m y) m d = sym (get_or-set_same ys m y d inside) in
           let begins : IsOrdered n x o y = record { is = order } in
           subst (λ (j : ℕ). IsOrdered n (get_or xs j d) (get_or all j e) (get_or (set ys m y) j d)) (sym at)
-          (subst (λ (u : Slot S I C W). IsOrdered n u (get_or all m e) (get_or (set ys m y) m d)) slot
+          (subst (λ (u : Slot S C W). IsOrdered n u (get_or all m e) (get_or (set ys m y) m d)) slot
           (subst (λ (u : OrderValue C). IsOrdered n x u (get_or (set ys m y) m d)) order_is
-          (subst (λ (u : Slot S I C W). IsOrdered n x o u) set_is begins)))
+          (subst (λ (u : Slot S C W). IsOrdered n x o u) set_is begins)))

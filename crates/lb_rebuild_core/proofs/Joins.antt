@@ -229,11 +229,11 @@ module _ {C : Type 0} where
     registry = ap (λ (x : GroupValue C). x.registry) is;
   }
 
-module _ {S I C W : Type 0} where
+module _ {S C W : Type 0} where
   -- an answer that is a job
-  pub job-stands : (made : Made C) (h : slots.History) (slot now : ℕ) (a : Ask S I C W) (j : Task C) (w : SlotsValue C) → a ≡ asked.Job j
+  pub job-stands : (made : Made C) (h : slots.History) (slot now : ℕ) (a : Ask S C W) (j : Task C) (w : SlotsValue C) → a ≡ asked.Job j
       → core.StandsFor made (asked_events slot now (ask_told a) ++ h) w → core.StandsFor made (slots.At slot (slots.Granted now) ∷ h) w
-  job-stands made h slot now a j w is s = subst (λ (x : Ask S I C W). core.StandsFor made (asked_events slot now (ask_told x) ++ h) w) is s
+  job-stands made h slot now a j w is s = subst (λ (x : Ask S C W). core.StandsFor made (asked_events slot now (ask_told x) ++ h) w) is s
 
 module _ {C : Type 0} where
   -- a job that is held
@@ -332,9 +332,9 @@ view-refused {A} r (inr (inl h)) = inr (inl (error-is {A = A} r refusal.OutOfMem
 view-refused {A} r (inr (inr (inl h))) = inr (inr (inl (error-is {A = A} r refusal.NumbersExhausted h)))
 view-refused {A} r (inr (inr (inr h))) = inr (inr (inr (error-is {A = A} r refusal.NoSuch h)))
 
-module _ {S I C W : Type 0} where
+module _ {S C W : Type 0} where
   -- an answer that is no job
-  pub other-joined : {n : ℕ} (made : Made C) (e : History) (slot now : ℕ) (a : Ask S I C W) (w : SlotsValue C) (u : ViewValue)
+  pub other-joined : {n : ℕ} (made : Made C) (e : History) (slot now : ℕ) (a : Ask S C W) (w : SlotsValue C) (u : ViewValue)
       → length made.configs < 2 ^ 64
       → ((j : Task C) → a ≡ asked.Job j → ⊥)
       → core.StandsFor made (asked_events slot now (ask_told a) ++ slot_events e) w → IsViewAfter (views_of made e) u

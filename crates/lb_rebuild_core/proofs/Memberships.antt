@@ -56,9 +56,9 @@ module _ {C : Type 0} where
       (ap (λ (m : ℕ). turn_of m (slot_after gate c (past_of k h))) count)
       ∙ ap (λ (l : List SlotTurn). turn_after (past_of k h) ∷ l) (turns-shown gate (k + 1) n cs h is)
 
-module _ {S I C W : Type 0} where
+module _ {S C W : Type 0} where
   -- slots at their start
-  pub starts : (own : GroupId) (id gate : GateId) (ms : List Member) (xs : List (Slot S I C W)) (configs : List C) → id ≡ gate → ms ≡ []
+  pub starts : (own : GroupId) (id gate : GateId) (ms : List Member) (xs : List (Slot S C W)) (configs : List C) → id ≡ gate → ms ≡ []
       → map slot_value xs ≡ map fresh_slot configs
       → StandsFor (record { id = own; gate = gate; configs = configs }) [] (slots_of own id 0 ms 0 false xs)
   starts own id gate ms xs configs is none fresh = record {
@@ -68,7 +68,7 @@ module _ {S I C W : Type 0} where
   }
 
   pub stops : (made : Made C) (h : History) (own : GroupId) (id : GateId) (n : ℕ) (ms : List Member) (at : ℕ) (st : Bool)
-      (xs : List (Slot S I C W)) (v : SlotsValue C)
+      (xs : List (Slot S C W)) (v : SlotsValue C)
       → slots_of own id n ms at st xs ≡ v → StandsFor made h v → StandsFor made (Cancelled ∷ h) (slots_of own id n ms at true xs)
   stops made h own id n ms at st xs v e s =
       let all : slots_of own id n ms at st xs ≡ group_after made h = e ∙ s.shows in
@@ -83,8 +83,8 @@ module _ {S I C W : Type 0} where
       }
 
   -- what contracts see of slots that were handed their orders
-  ordered-values : (xs ys : List (Slot S I C W)) (n : ℕ) (ms : List Member)
-      → AreOrdered n xs (map (λ (x : Slot S I C W). order_for (n + 1) ms (slot_value x)) xs) ys
+  ordered-values : (xs ys : List (Slot S C W)) (n : ℕ) (ms : List Member)
+      → AreOrdered n xs (map (λ (x : Slot S C W). order_for (n + 1) ms (slot_value x)) xs) ys
       → map slot_value ys ≡ map (ordered n ms) (map slot_value xs)
   ordered-values [] [] n ms all = refl
   ordered-values [] (y ∷ ys) n ms all = let none : suc (length ys) ≡ 0 = all.count in absurd (omega arith)
@@ -92,7 +92,7 @@ module _ {S I C W : Type 0} where
   ordered-values (x ∷ xs) (y ∷ ys) n ms all =
       let count : suc (length ys) ≡ suc (length xs) = all.count in
       let first : slot_value y ≡ ordered n ms (slot_value x) = all.each 0 x (order_for (n + 1) ms (slot_value x)) (omega arith) in
-      let others : AreOrdered n xs (map (λ (z : Slot S I C W). order_for (n + 1) ms (slot_value z)) xs) ys = record {
+      let others : AreOrdered n xs (map (λ (z : Slot S C W). order_for (n + 1) ms (slot_value z)) xs) ys = record {
         count = omega arith;
         each = λ k d o h. all.each (suc k) d o (omega arith);
       } in
@@ -100,9 +100,9 @@ module _ {S I C W : Type 0} where
       (ordered-values xs ys n ms others)
 
   pub schedules : (made : Made C) (h : History) (own : GroupId) (id : GateId) (n m : ℕ) (old ms os : List Member) (at now : ℕ) (st : Bool)
-      (xs ys : List (Slot S I C W)) (v : SlotsValue C)
+      (xs ys : List (Slot S C W)) (v : SlotsValue C)
       → slots_of own id n old at st xs ≡ v → StandsFor made h v → m ≡ n + 1 → n + 1 < 2 ^ 64 → st ≡ false → os ≡ ms
-      → AreOrdered n xs (map (λ (x : Slot S I C W). order_for (n + 1) ms (slot_value x)) xs) ys
+      → AreOrdered n xs (map (λ (x : Slot S C W). order_for (n + 1) ms (slot_value x)) xs) ys
       → StandsFor made (Scheduled ms now ∷ h) (slots_of own id m os now st ys)
   schedules made h own id n m old ms os at now st xs ys v e s next fits live from are =
       let all : slots_of own id n old at st xs ≡ group_after made h = e ∙ s.shows in
@@ -119,16 +119,16 @@ module _ {S I C W : Type 0} where
             ∙ ordered-slots made.gate 0 n made.configs ms now h s.possible goes is fits);
       }
 
-  turns-map : (n : ℕ) (xs : List (Slot S I C W))
-      → map (λ (x : Slot S I C W). turn_of n (slot_value x)) xs ≡ map (λ (z : SlotValue C). turn_of n z) (map slot_value xs)
+  turns-map : (n : ℕ) (xs : List (Slot S C W))
+      → map (λ (x : Slot S C W). turn_of n (slot_value x)) xs ≡ map (λ (z : SlotValue C). turn_of n z) (map slot_value xs)
   turns-map n [] = refl
   turns-map n (x ∷ xs) = ap (λ (l : List SlotTurn). turn_of n (slot_value x) ∷ l) (turns-map n xs)
 
   -- what the answer to a membership says of each slot
   pub turns-are : (made : Made C) (h : History) (own : GroupId) (id : GateId) (n : ℕ) (ms : List Member) (at : ℕ) (st : Bool)
-      (xs : List (Slot S I C W)) (v : SlotsValue C)
+      (xs : List (Slot S C W)) (v : SlotsValue C)
       → slots_of own id n ms at st xs ≡ v → StandsFor made h v
-      → map (λ (x : Slot S I C W). turn_of n (slot_value x)) xs ≡ turns_after 0 made.configs h
+      → map (λ (x : Slot S C W). turn_of n (slot_value x)) xs ≡ turns_after 0 made.configs h
   turns-are made h own id n ms at st xs v e s =
       let all : slots_of own id n ms at st xs ≡ group_after made h = e ∙ s.shows in
       turns-map n xs ∙ ap (map (λ (z : SlotValue C). turn_of n z)) (ap (λ (w : SlotsValue C). w.slots) all)
@@ -136,9 +136,9 @@ module _ {S I C W : Type 0} where
 
   -- the answer to another membership than the newest one
   pub changes : (made : Made C) (h : History) (own : GroupId) (id : GateId) (n m : ℕ) (old members : List Member) (at : ℕ) (st : Bool)
-      (xs : List (Slot S I C W)) (v : SlotsValue C) (turns : List SlotTurn)
+      (xs : List (Slot S C W)) (v : SlotsValue C) (turns : List SlotTurn)
       → slots_of own id n old at st xs ≡ v → StandsFor made h v → m ≡ n + 1 → n + 1 < 2 ^ 64 → st ≡ false → same_members members old ≡ false
-      → turns ≡ map (λ (x : Slot S I C W). turn_of n (slot_value x)) xs
+      → turns ≡ map (λ (x : Slot S C W). turn_of n (slot_value x)) xs
       → (schedule_refusal members h ≡ None) × (true ≡ is_change members h) × (m ≡ cond (is_change members h) (newest h + 1) (newest h))
       × (turns ≡ cond (is_change members h) (turns_after 0 made.configs h) [])
   changes made h own id n m old members at st xs v turns e s next fits live other are =
@@ -155,15 +155,15 @@ module _ {S I C W : Type 0} where
       )
 
   -- what a prepared membership has for each slot
-  pub orders-map : (n : ℕ) (ms : List Member) (xs : List (Slot S I C W))
-      → map (λ (x : Slot S I C W). order_for (n + 1) ms (slot_value x)) xs ≡ map (λ (z : SlotValue C). order_for (n + 1) ms z)
+  pub orders-map : (n : ℕ) (ms : List Member) (xs : List (Slot S C W))
+      → map (λ (x : Slot S C W). order_for (n + 1) ms (slot_value x)) xs ≡ map (λ (z : SlotValue C). order_for (n + 1) ms z)
       (map slot_value xs)
   orders-map n ms [] = refl
   orders-map n ms (x ∷ xs) = ap (λ (l : List (OrderValue C)). order_for (n + 1) ms (slot_value x) ∷ l) (orders-map n ms xs)
 
   -- a membership that was prepared is the newest
   pub commits : (made : Made C) (h : History) (own : GroupId) (id : GateId) (n m : ℕ) (old ms : List Member) (at now : ℕ) (st : Bool)
-      (xs ys : List (Slot S I C W)) (turns : List SlotTurn) (os : List (OrderValue C))
+      (xs ys : List (Slot S C W)) (turns : List SlotTurn) (os : List (OrderValue C))
       (v : SlotsValue C) (p : PreparedValue C)
       → slots_of own id n old at st xs ≡ v
       → (let one : PreparedValue C = record { generation = m; members = ms; turns = turns; orders = os } in one ≡ p) → Fits v p
@@ -174,7 +174,7 @@ module _ {S I C W : Type 0} where
       ∙ ap (λ (w : SlotsValue C). w.newest + 1) (sym e) in
       let fits : n + 1 < 2 ^ 64 = subst (λ (w : SlotsValue C). w.newest + 1 < 2 ^ 64) (sym e) f.bounded in
       let live : st ≡ false = ap (λ (w : SlotsValue C). w.cancelled) e ∙ f.live in
-      let orders : os ≡ map (λ (x : Slot S I C W). order_for (n + 1) p.members (slot_value x)) xs =
+      let orders : os ≡ map (λ (x : Slot S C W). order_for (n + 1) p.members (slot_value x)) xs =
       ap (λ (z : PreparedValue C). z.orders) q ∙ f.orders
       ∙ ap (λ (w : SlotsValue C). map (λ (x : SlotValue C). order_for (w.newest + 1) p.members x) w.slots) (sym e)
       ∙ sym (orders-map n p.members xs) in

@@ -155,19 +155,19 @@ module _ {C : Type 0} where
             ∙ sym (ap (λ (z : SlotsValue C). configs_of z) s.shows ∙ configs-after made.gate 0 made.configs h);
       })
 
-module _ {S I C W : Type 0} where
+module _ {S C W : Type 0} where
   -- a group with these slots
-  abbrev pub slots_of : GroupId → GateId → ℕ → List Member → ℕ → Bool → List (Slot S I C W) → SlotsValue C
+  abbrev pub slots_of : GroupId → GateId → ℕ → List Member → ℕ → Bool → List (Slot S C W) → SlotsValue C
   slots_of own id n ms at st xs =
       record { id = own; gate = id; newest = n; current = ms; scheduled = at; cancelled = st; slots = map slot_value xs }
 
-  pub length-values : (xs : List (Slot S I C W)) → length (map slot_value xs) ≡ length xs
+  pub length-values : (xs : List (Slot S C W)) → length (map slot_value xs) ≡ length xs
   length-values [] = refl
   length-values (x ∷ xs) = ap suc (length-values xs)
 
   -- What a call at one slot finds, x, and what it has to show of the slot y that it leaves.
   pub record Facing (made : Made C) (h : History) (own : GroupId) (id : GateId) (n : ℕ) (ms : List Member) (at : ℕ) (st : Bool)
-      (xs : List (Slot S I C W)) (i : ℕ) (x y : Slot S I C W) : Type 0 where
+      (xs : List (Slot S C W)) (i : ℕ) (x y : Slot S C W) : Type 0 where
     pub config : C
     pub there : slice_get made.configs i ≡ Some config
     pub inside : i < length made.configs
@@ -187,7 +187,7 @@ module _ {S I C W : Type 0} where
 
   -- how many slots there are
   pub count-is : {made : Made C} {h : History} {own : GroupId} {id : GateId} {n : ℕ} {ms : List Member} {at : ℕ} {st : Bool}
-      (xs : List (Slot S I C W)) {v : SlotsValue C}
+      (xs : List (Slot S C W)) {v : SlotsValue C}
       → slots_of own id n ms at st xs ≡ v → StandsFor made h v → length xs ≡ length made.configs
   count-is {made} {h} {own} {id} {n} {ms} {at} {st} xs e s =
       let all : slots_of own id n ms at st xs ≡ group_after made h = e ∙ s.shows in
@@ -195,14 +195,14 @@ module _ {S I C W : Type 0} where
 
   -- a slot that the call does not find is none that the group was made with
   pub beyond : {made : Made C} {h : History} {own : GroupId} {id : GateId} {n : ℕ} {ms : List Member} {at : ℕ} {st : Bool}
-      (xs : List (Slot S I C W)) {v : SlotsValue C} (i : ℕ)
+      (xs : List (Slot S C W)) {v : SlotsValue C} (i : ℕ)
       → slots_of own id n ms at st xs ≡ v → length xs ≤ i → StandsFor made h v → nat_lt i (length made.configs) ≡ false
   beyond {made} xs i e few s =
       let count = count-is xs e s in
       lt-false i (length made.configs) (omega (arith, count, few))
 
   pub facing : {made : Made C} {h : History} {own : GroupId} {id : GateId} {n : ℕ} {ms : List Member} {at : ℕ} {st : Bool}
-      {xs : List (Slot S I C W)} {v : SlotsValue C} (i : ℕ) (x y : Slot S I C W)
+      {xs : List (Slot S C W)} {v : SlotsValue C} (i : ℕ) (x y : Slot S C W)
       → slots_of own id n ms at st xs ≡ v → i < length xs → x ≡ get_or xs i x → StandsFor made h v
       → Facing made h own id n ms at st xs i x y
   facing {made} {h} {own} {id} {n} {ms} {at} {st} {xs} i x y e in_ is s = found (slice_get_cases made.configs i).1
@@ -267,7 +267,7 @@ module _ {S I C W : Type 0} where
             };
           }
 
-  inside-of : {own : GroupId} {id : GateId} {n : ℕ} {ms : List Member} {at : ℕ} {st : Bool} (xs : List (Slot S I C W)) {v : SlotsValue C}
+  inside-of : {own : GroupId} {id : GateId} {n : ℕ} {ms : List Member} {at : ℕ} {st : Bool} (xs : List (Slot S C W)) {v : SlotsValue C}
       (i : ℕ) (c : C)
       → slots_of own id n ms at st xs ≡ v → slice_get (configs_of v) i ≡ Some c → i < length xs
   inside-of xs i c e there =
@@ -276,18 +276,18 @@ module _ {S I C W : Type 0} where
       let few : i < length (map (λ (x : SlotValue C). x.config) (map slot_value xs)) = slice_get_within _ i c configs in
       subst (λ (k : ℕ). i < k) (long xs) few
     where
-      long : (ys : List (Slot S I C W)) → length (map (λ (x : SlotValue C). x.config) (map slot_value ys)) ≡ length ys
+      long : (ys : List (Slot S C W)) → length (map (λ (x : SlotValue C). x.config) (map slot_value ys)) ≡ length ys
       long [] = refl
       long (y ∷ ys) = ap suc (long ys)
 
   -- a task that comes back to its slot: what the call finds there, and that the task has the slot's configuration
   pub record Coming (made : Made C) (h : History) (own : GroupId) (id : GateId) (n : ℕ) (ms : List Member) (at : ℕ) (st : Bool)
-      (xs : List (Slot S I C W)) (i : ℕ) (x y : Slot S I C W) (c : C) : Type 0 where
+      (xs : List (Slot S C W)) (i : ℕ) (x y : Slot S C W) (c : C) : Type 0 where
     pub faces : Facing made h own id n ms at st xs i x y
     pub config : c ≡ faces.config
 
   pub coming : {made : Made C} {h : History} {own : GroupId} {id : GateId} {n : ℕ} {ms : List Member} {at : ℕ} {st : Bool}
-      {xs : List (Slot S I C W)} {v : SlotsValue C} {k : ℕ} {c : C} (i : ℕ) (x y : Slot S I C W)
+      {xs : List (Slot S C W)} {v : SlotsValue C} {k : ℕ} {c : C} (i : ℕ) (x y : Slot S C W)
       → slots_of own id n ms at st xs ≡ v → i ≡ k → slice_get (configs_of v) k ≡ Some c → x ≡ get_or xs i x → StandsFor made h v
       → Coming made h own id n ms at st xs i x y c
   coming {xs = xs} {k = k} {c = c} i x y e place there is s =

@@ -55,7 +55,7 @@ slot_answer newest stopped out now x =
     else job
 
 -- what an answer says, but for the job in it
-abbrev pub ask_told : {S I C W : Type 0} → Ask S I C W → AskAnswer
+abbrev pub ask_told : {S C W : Type 0} → Ask S C W → AskAnswer
 ask_told asked.Cancelled = cancelled
 ask_told asked.Building = building
 ask_told asked.Nothing = up_to_date
@@ -83,7 +83,7 @@ asked_gate busy g = g
 asked_gate job g = gate g.id true
 
 -- a job is the order that waited in its slot, with the gate's permit
-abbrev pub IsJobOf : {S I C W : Type 0} → PlaceValue → GateId → SlotValue C → Ask S I C W → Type 0
+abbrev pub IsJobOf : {S C W : Type 0} → PlaceValue → GateId → SlotValue C → Ask S C W → Type 0
 IsJobOf p id x asked.Cancelled = Unit {0}
 IsJobOf p id x asked.Building = Unit {0}
 IsJobOf p id x asked.Nothing = Unit {0}

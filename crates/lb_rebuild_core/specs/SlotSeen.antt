@@ -8,7 +8,7 @@ use Rattle.lb_rebuild_core.specs.declared.slot.Slot.{Slot}
 use Rattle.lb_rebuild_core.specs.declared.slot.SlotStage.{SlotStage}
 use Rattle.lb_rebuild_core.specs.declared.slot.SlotStage.TheVariants as stage
 
-abbrev pub extra_of : {S I C W : Type 0} → SlotStage S I C W → Extra
+abbrev pub extra_of : {S C W : Type 0} → SlotStage S C W → Extra
 extra_of stage.Free = nothing
 extra_of (stage.Flight n p) = flight n
 extra_of (stage.Lost n p) = lost n
@@ -16,7 +16,7 @@ extra_of (stage.Retired s p) = retired s.generation
 extra_of (stage.TakenOut n p) = taken_out n
 
 -- the gate of the permit that is out for what stands there
-abbrev pub permit_of : {S I C W : Type 0} → SlotStage S I C W → Option GateId
+abbrev pub permit_of : {S C W : Type 0} → SlotStage S C W → Option GateId
 permit_of stage.Free = None
 permit_of (stage.Flight n p) = Some p
 permit_of (stage.Lost n p) = Some p
@@ -24,14 +24,14 @@ permit_of (stage.Retired s p) = Some p
 permit_of (stage.TakenOut n p) = Some p
 
 -- the counter of tickets of the retired selector that stands there
-abbrev pub left_tickets_of : {S I C W : Type 0} → SlotStage S I C W → ℕ
+abbrev pub left_tickets_of : {S C W : Type 0} → SlotStage S C W → ℕ
 left_tickets_of stage.Free = 0
 left_tickets_of (stage.Flight n p) = 0
 left_tickets_of (stage.Lost n p) = 0
 left_tickets_of (stage.Retired s p) = s.tickets
 left_tickets_of (stage.TakenOut n p) = 0
 
-abbrev pub slot_value : {S I C W : Type 0} → Slot S I C W → SlotValue C
+abbrev pub slot_value : {S C W : Type 0} → Slot S C W → SlotValue C
 slot_value x =
     record {
       serving = x.serving;

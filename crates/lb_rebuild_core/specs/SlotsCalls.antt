@@ -96,7 +96,7 @@ pub record IsJob {C : Type 0} (made : Made C) (h : History) (slot : ℕ) (j : Ta
   pub config : slice_get made.configs slot ≡ Some j.config
   pub members : j.members ≡ order_members (past_of slot h)
 
-abbrev pub JobIs : {S I C W : Type 0} → Made C → History → ℕ → Ask S I C W → Type 0
+abbrev pub JobIs : {S C W : Type 0} → Made C → History → ℕ → Ask S C W → Type 0
 JobIs made h slot asked.Cancelled = Unit {0}
 JobIs made h slot asked.Building = Unit {0}
 JobIs made h slot asked.Nothing = Unit {0}
@@ -104,13 +104,13 @@ JobIs made h slot (asked.NotDue m) = Unit {0}
 JobIs made h slot asked.Busy = Unit {0}
 JobIs made h slot (asked.Job j) = IsJob made h slot j
 
-abbrev pub Asks : {S I C W : Type 0} → Made C → History → ℕ → Bool → ℕ → Result (Ask S I C W) Refusal → Type 0
+abbrev pub Asks : {S C W : Type 0} → Made C → History → ℕ → Bool → ℕ → Result (Ask S C W) Refusal → Type 0
 Asks made h slot out now (Ok a) =
     (slot < length made.configs) × (ask_told a ≡ ask_answer (past_of slot h) out now) × JobIs made h slot a
 Asks made h slot out now (Err e) = (e ≡ refusal.NoSuch) × (length made.configs ≤ slot)
 
 -- a job that goes out is the group's own
-abbrev pub IsOwnJob : {S I C W : Type 0} → SlotsValue C → Ask S I C W → Type 0
+abbrev pub IsOwnJob : {S C W : Type 0} → SlotsValue C → Ask S C W → Type 0
 IsOwnJob v asked.Cancelled = Unit {0}
 IsOwnJob v asked.Building = Unit {0}
 IsOwnJob v asked.Nothing = Unit {0}
@@ -126,11 +126,11 @@ asked_events slot now (not_due m) = []
 asked_events slot now busy = []
 asked_events slot now job = At slot (Granted now) ∷ []
 
-abbrev pub ask_events : {S I C W : Type 0} → ℕ → ℕ → Result (Ask S I C W) Refusal → History
+abbrev pub ask_events : {S C W : Type 0} → ℕ → ℕ → Result (Ask S C W) Refusal → History
 ask_events slot now (Ok a) = asked_events slot now (ask_told a)
 ask_events slot now (Err e) = []
 
-abbrev pub gate_after : {S I C W : Type 0} → Result (Ask S I C W) Refusal → GateValue → GateValue
+abbrev pub gate_after : {S C W : Type 0} → Result (Ask S C W) Refusal → GateValue → GateValue
 gate_after (Ok a) g = asked_gate (ask_told a) g
 gate_after (Err e) g = g
 

@@ -21,5 +21,6 @@ pub mod weight_laws;
 pub mod weighted;
 
 pub use lb_select_base::{
-    algorithms, backend, causes, laws, loads, moments, refusal, seen, select, unique, walk, words,
+    algorithms, backend, causes, iter, laws, loads, moments, refusal, seen, select, unique, walk,
+    words,
 };

@@ -3,6 +3,7 @@
 pub use crate::weighted;
 use crate::weighted::Weighted;
 pub use lb_select_base::algorithms;
+pub use lb_select_base::iter::Iter;
 pub use lb_select_base::unique::UniqueIterator;
 pub use lb_select_base::walk::{BackendIter, BackendSelection, SelectionAlgorithm};
 

@@ -4,7 +4,6 @@ use denote.Struct.Declared.{shape}
 use denote.Param.Send.{IsSend, IsSync, sendable, view_send, view_sync, struct_send, struct_sync, recorded_send, recorded_sync}
 use Rattle.std.proofs.Crossing.{crosses}
 use Rattle.lb_select_base.specs.declared.walk.BackendSelection.{Ghosts as Selection}
-use Rattle.lb_select_base.specs.declared.walk.BackendIter.{Ghosts as Iter}
 use Rattle.lb_health_core.specs.declared.keys.KeyRule.{Ghosts as Keys}
 use Rattle.lb_balancer_core.proofs.timings.UpdateTimings.TheSendSync as timings
 use Rattle.lb_threads_core.proofs.loads.SharedLoads.TheSendSync as loads
@@ -38,26 +37,26 @@ place_send = search (sendable, crosses) depth 20
 place_sync : IsSync place.the_row
 place_sync = search (sendable, crosses) depth 20
 
-module _ (T R H I C W : RattleType) (g : Selection T.Denot I.Denot C.Denot W.Denot) (h : Iter I.Denot) (k : Keys R.Denot) (s : IsSend T)
+module _ (T R H C W : RattleType) (g : Selection T.Denot C.Denot W.Denot) (k : Keys R.Denot) (s : IsSend T)
     (sc : IsSend C) (y : IsSync T) (yc : IsSync C) (sr : IsSend R) (yr : IsSync R) (sh : IsSend H) (yh : IsSync H) where
-  core_send : IsSend (watched.the_row T I C W g h)
-  core_send = watched_send T I C W g h s sc y yc
+  core_send : IsSend (watched.the_row T C W g)
+  core_send = watched_send T C W g s sc y yc
 
-  reader_send : IsSend (reader.the_row T I C W g h)
+  reader_send : IsSend (reader.the_row T C W g)
   reader_send = search (sendable, crosses, place_send) depth 20
 
-  reader_sync : IsSync (reader.the_row T I C W g h)
+  reader_sync : IsSync (reader.the_row T C W g)
   reader_sync = search (sendable, crosses, place_sync) depth 20
 
-  site_send : IsSend (site.the_row T R H I C W g h k)
+  site_send : IsSend (site.the_row T R H C W g k)
   site_send = search (sendable, crosses) depth 20
 
-  site_sync : IsSync (site.the_row T R H I C W g h k)
+  site_sync : IsSync (site.the_row T R H C W g k)
   site_sync = search (sendable, crosses) depth 20
 
-  found_inside_send : IsSend (found_inside.the_row T R H I C W g h k)
-  found_inside_send = recorded_send (found_inside.the_field T R H I C W g h k).row _ _ (found_inside.the_type T R H I C W g h k).to_one
-      (struct_send (shape (found_inside.the_type T R H I C W g h k)) (
+  found_inside_send : IsSend (found_inside.the_row T R H C W g k)
+  found_inside_send = recorded_send (found_inside.the_field T R H C W g k).row _ _ (found_inside.the_type T R H C W g k).to_one
+      (struct_send (shape (found_inside.the_type T R H C W g k)) (
         search (sendable, crosses) depth 20,
         (
           search (sendable, crosses, ready.the_send) depth 20,
@@ -68,9 +67,9 @@ module _ (T R H I C W : RattleType) (g : Selection T.Denot I.Denot C.Denot W.Den
         ),
       ))
 
-  found_inside_sync : IsSync (found_inside.the_row T R H I C W g h k)
-  found_inside_sync = recorded_sync (found_inside.the_field T R H I C W g h k).row _ _ (found_inside.the_type T R H I C W g h k).to_one
-      (struct_sync (shape (found_inside.the_type T R H I C W g h k)) (
+  found_inside_sync : IsSync (found_inside.the_row T R H C W g k)
+  found_inside_sync = recorded_sync (found_inside.the_field T R H C W g k).row _ _ (found_inside.the_type T R H C W g k).to_one
+      (struct_sync (shape (found_inside.the_type T R H C W g k)) (
         search (sendable, crosses) depth 20,
         (
           search (sendable, crosses, ready.the_sync) depth 20,
@@ -81,27 +80,27 @@ module _ (T R H I C W : RattleType) (g : Selection T.Denot I.Denot C.Denot W.Den
         ),
       ))
 
-  found_send : IsSend (found.the_row T R H I C W g h k)
+  found_send : IsSend (found.the_row T R H C W g k)
   found_send = view_send _ _ _ _ _ found_inside_send
 
-  found_sync : IsSync (found.the_row T R H I C W g h k)
+  found_sync : IsSync (found.the_row T R H C W g k)
   found_sync = view_sync _ _ _ _ _ found_inside_sync
 
-  slot_words_send : IsSend (slot_words.the_row T R H I C W g h k)
+  slot_words_send : IsSend (slot_words.the_row T R H C W g k)
   slot_words_send = search (sendable, crosses, found_send, found_sync) depth 30
 
-  slot_words_sync : IsSync (slot_words.the_row T R H I C W g h k)
+  slot_words_sync : IsSync (slot_words.the_row T R H C W g k)
   slot_words_sync = search (sendable, crosses, found_send, found_sync) depth 30
 
-  entry_send : IsSend (entry.the_row T R H I C W g h k)
+  entry_send : IsSend (entry.the_row T R H C W g k)
   entry_send = search (sendable, crosses, found_send, found_sync, reader_send) depth 30
 
-  entry_sync : IsSync (entry.the_row T R H I C W g h k)
+  entry_sync : IsSync (entry.the_row T R H C W g k)
   entry_sync = search (sendable, crosses, found_send, found_sync, reader_sync) depth 30
 
-  inside_send : IsSend (inside.the_row T R H I C W g h k)
-  inside_send = recorded_send (inside.the_field T R H I C W g h k).row _ _ (inside.the_type T R H I C W g h k).to_one
-      (struct_send (shape (inside.the_type T R H I C W g h k)) (
+  inside_send : IsSend (inside.the_row T R H C W g k)
+  inside_send = recorded_send (inside.the_field T R H C W g k).row _ _ (inside.the_type T R H C W g k).to_one
+      (struct_send (shape (inside.the_type T R H C W g k)) (
         search (lock.the_field_send, core_send) depth 10,
         (
           search (sendable, crosses, board.the_send, board.the_sync) depth 20,
@@ -145,9 +144,9 @@ module _ (T R H I C W : RattleType) (g : Selection T.Denot I.Denot C.Denot W.Den
         ),
       ))
 
-  inside_sync : IsSync (inside.the_row T R H I C W g h k)
-  inside_sync = recorded_sync (inside.the_field T R H I C W g h k).row _ _ (inside.the_type T R H I C W g h k).to_one
-      (struct_sync (shape (inside.the_type T R H I C W g h k)) (
+  inside_sync : IsSync (inside.the_row T R H C W g k)
+  inside_sync = recorded_sync (inside.the_field T R H C W g k).row _ _ (inside.the_type T R H C W g k).to_one
+      (struct_sync (shape (inside.the_type T R H C W g k)) (
         search (lock.the_field_sync, core_send) depth 10,
         (
           search (sendable, crosses, board.the_send, board.the_sync) depth 20,
@@ -191,8 +190,8 @@ module _ (T R H I C W : RattleType) (g : Selection T.Denot I.Denot C.Denot W.Den
         ),
       ))
 
-  pub shared_send : IsSend (shared.the_row T R H I C W g h k)
+  pub shared_send : IsSend (shared.the_row T R H C W g k)
   shared_send = view_send _ _ _ _ _ inside_send
 
-  pub shared_sync : IsSync (shared.the_row T R H I C W g h k)
+  pub shared_sync : IsSync (shared.the_row T R H C W g k)
   shared_sync = view_sync _ _ _ _ _ inside_sync

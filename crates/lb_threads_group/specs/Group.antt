@@ -79,8 +79,8 @@ module _ {C : Type 0} where
       × ((t ≡ told_of b a) × Under site (λ v w. After v (λ made e. Publishes (slot_events e) b a)
       × Becomes v (in_group (publish_events b a)) w × SameSite v w))
 
-module _ {S I C W : Type 0} where
-  abbrev pub AskedUnder : GroupValue C → ℕ → ℕ → Result (Ask S I C W) Refusal → Type 0
+module _ {S C W : Type 0} where
+  abbrev pub AskedUnder : GroupValue C → ℕ → ℕ → Result (Ask S C W) Refusal → Type 0
   AskedUnder site slot now r = UnderGate site (λ v g w k. IsAsked v g slot now r w k)
 
 module _ {C R : Type 0} (gives : R → Member → Member → Type 0) where

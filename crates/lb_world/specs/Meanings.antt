@@ -12,5 +12,5 @@ pub record Meaning (C : Type 0) : Type 1 where
   pub random : List Member → C → Bool
 
 -- the meaning of a type of selectors, by the members of its trait
-abbrev pub meaning_of : {S I C W : Type 0} → Ghosts S I C W → Meaning C
+abbrev pub meaning_of : {S C W : Type 0} → Ghosts S C W → Meaning C
 meaning_of s = record { walks = s.walks; refusal = s.refusal; random = s.may_draw_random }

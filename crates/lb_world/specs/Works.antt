@@ -9,7 +9,7 @@ use Rattle.lb_world.specs.declared.held.Work as declared
 use Rattle.lb_world.specs.declared.held.Work.TheVariants as is
 use Rattle.lb_world.specs.declared.world.Tables.{Tables}
 
-abbrev pub work_value : {S I C W : Type 0} → declared.Work S I C W → WorkValue C
+abbrev pub work_value : {S C W : Type 0} → declared.Work S C W → WorkValue C
 work_value is.Nothing = nothing
 work_value (is.Building j) = building j
 work_value (is.Built b) = built b
@@ -32,6 +32,6 @@ held_of o slot c p work.building = building (last_job o slot c p)
 held_of o slot c p (work.built now) = built (record { task = last_job o slot c p; ended = now })
 
 -- the tables of a world
-abbrev pub world_value : {S I C W : Type 0} → Tables S I C W → WorldValue C
+abbrev pub world_value : {S C W : Type 0} → Tables S C W → WorldValue C
 world_value w =
     record { registries = w.registries.items; gates = w.gates.items; groups = w.groups.items; readers = w.readers.items }

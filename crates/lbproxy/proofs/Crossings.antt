@@ -5,11 +5,9 @@ use denote.Param.Send.{IsSend, IsSync, sendable, struct_send, struct_sync, recor
 use Rattle.std.proofs.Crossing.{crosses, Arc-send, Arc-sync}
 use Rattle.std.proofs.MapsCrossing as maps
 use Rattle.lb_script.specs.contracts.kinds.Chosen as chosen
-use Rattle.lb_script.specs.contracts.kinds.ChosenIterator as iterator
 use Rattle.lb_script.specs.contracts.kinds.ChosenWalk as walk
 use Rattle.lb_script.specs.contracts.kinds.Kind as kind
 use Rattle.lb_script.specs.contracts.kinds.ChosenBackendSelection.TheImpl as selection
-use Rattle.lb_script.specs.contracts.kinds.ChosenIteratorBackendIter.TheImpl as iteration
 use Rattle.lb_script.proofs.kinds.Chosen.TheSendSync as chosen_crossing
 use Rattle.lb_script.proofs.kinds.Kind.TheSendSync as kind_crossing
 use Rattle.lb_health_core.specs.contracts.keys.Rule as rule
@@ -59,19 +57,19 @@ module _ (R C : RattleType) (sr : IsSend R) (yr : IsSync R) (sc : IsSend C) (yc 
   discovery_sync = search (sendable, crosses, discovery_crossing.the_sync, yr) depth 20
 
   abbrev group : RattleType
-  group = handle.the_row chosen.the_row (discovery.the_row R) keys C iterator.the_row kind.the_row walk.the_row selection.ghosts
-      iteration.ghosts (rule_keys.ghosts no_rule.the_row no_rule_keys.ghosts rule_keys.no_dict)
+  group = handle.the_row chosen.the_row (discovery.the_row R) keys C kind.the_row walk.the_row selection.ghosts
+      (rule_keys.ghosts no_rule.the_row no_rule_keys.ghosts rule_keys.no_dict)
 
   group_send : IsSend group
   group_send =
-      handle_send chosen.the_row (discovery.the_row R) keys C iterator.the_row kind.the_row walk.the_row selection.ghosts
-      iteration.ghosts (rule_keys.ghosts no_rule.the_row no_rule_keys.ghosts rule_keys.no_dict) chosen_send kind_send chosen_sync
+      handle_send chosen.the_row (discovery.the_row R) keys C kind.the_row walk.the_row selection.ghosts
+      (rule_keys.ghosts no_rule.the_row no_rule_keys.ghosts rule_keys.no_dict) chosen_send kind_send chosen_sync
       kind_sync discovery_send discovery_sync keys_send keys_sync sc yc
 
   group_sync : IsSync group
   group_sync =
-      handle_sync chosen.the_row (discovery.the_row R) keys C iterator.the_row kind.the_row walk.the_row selection.ghosts
-      iteration.ghosts (rule_keys.ghosts no_rule.the_row no_rule_keys.ghosts rule_keys.no_dict) chosen_send kind_send chosen_sync
+      handle_sync chosen.the_row (discovery.the_row R) keys C kind.the_row walk.the_row selection.ghosts
+      (rule_keys.ghosts no_rule.the_row no_rule_keys.ghosts rule_keys.no_dict) chosen_send kind_send chosen_sync
       kind_sync discovery_send discovery_sync keys_send keys_sync sc yc
 
   pool_fields_send : IsSend (pool.the_field R C).row

@@ -3,13 +3,13 @@
 pub mod consistent;
 pub mod laws;
 
-pub use lb_script::kinds::{Chosen, ChosenIterator, ChosenWalk, Kind};
+pub use lb_script::kinds::{Chosen, ChosenWalk, Kind};
 pub use lb_select::ketama::Consistent;
-pub use lb_select::least::{LeastConnections, LeastIterator, LeastWalk};
+pub use lb_select::least::{LeastConnections, LeastWalk};
 pub use lb_select::seen::SeenBackends;
 pub use lb_select::select::select;
 pub use lb_select::selection::{
-    BackendIter, BackendSelection, FNVHash, FVNHash, Random, RoundRobin, SelectionAlgorithm,
+    BackendIter, BackendSelection, FNVHash, FVNHash, Iter, Random, RoundRobin, SelectionAlgorithm,
     UniqueIterator,
 };
 pub use lb_select::{algorithms, weighted};

@@ -5,6 +5,7 @@ use crate::selection::fixtures::{selector_of, set_of_weights, words_from, words_
 use lb_select::least::LeastConnections;
 use lb_select::selection::RoundRobin;
 use lb_select_base::backend::Backend;
+use lb_select_base::iter::Iter;
 use lb_select_base::refusal::Refusal;
 use lb_select_base::select::select;
 use lb_select_base::walk::{BackendIter, BackendSelection};
@@ -63,7 +64,7 @@ fn read_by_walk(
     words: &mut NotingWords,
 ) -> Result<(u64, u64), Refusal> {
     words.read.set(0);
-    let mut walk = LeastConnections::iter(selector, b"k", words)?;
+    let mut walk = Iter::new(selector, b"k", words)?;
     let begun = words.read.get();
     for _ in 0..9u32 {
         walk.next(words);

@@ -1,5 +1,6 @@
 //! What the tests make again and again: sets of backends, sources of words, and what walks and selections give.
 use lb_select_base::backend::{Backend, InetAddr, SocketAddr};
+use lb_select_base::iter::Iter;
 use lb_select_base::refusal::Refusal;
 use lb_select_base::walk::{BackendIter, BackendSelection};
 use lb_select_base::words::{CoreWords, WordSource};
@@ -96,7 +97,7 @@ fn push_walks<S: BackendSelection>(
     counts: &[usize],
 ) -> Result<(), Refusal> {
     for count in counts {
-        let mut walk = S::iter(selector, key, words)?;
+        let mut walk = Iter::new(selector, key, words)?;
         push_walk(alloc, text, &mut walk, words, *count)?;
     }
     Ok(())

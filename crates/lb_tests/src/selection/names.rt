@@ -4,6 +4,7 @@ use crate::selection::fixtures::{is_text, push_address, set_of, walked, words_fr
 use lb_select::ketama::{Consistent, KetamaConfig};
 use lb_select::selection::FVNHash;
 use lb_select_base::backend::Backend;
+use lb_select_base::iter::Iter;
 use lb_select_base::refusal::Refusal;
 use lb_select_base::walk::{BackendIter, BackendSelection};
 use std::alloc::Global;
@@ -134,7 +135,7 @@ fn push_first(
     key: &[u8],
 ) -> Result<(), Refusal> {
     let mut words = words_from(0);
-    let mut walk = Consistent::iter(ring, key, &mut words)?;
+    let mut walk = Iter::new(ring, key, &mut words)?;
     push_address(alloc, text, walk.next(&mut words))
 }
 

@@ -1,7 +1,6 @@
 //! A selector that notes when it is gone, in the order of a destruction: it is gone before that is reported to the gate.
 //! It walks as a selector in turn does.
 ghost use Rattle.std.specs.Prelude.{◌∷◌, false, ⊤};
-ghost use Rattle.std.specs.Arc.{arc_value};
 ghost use Rattle.lb_select_base.specs.AlgorithmLaws.{ticket_drawn, one_ticket};
 ghost use Rattle.lb_select_base.specs.Algorithms.{ticket_word};
 ghost use Rattle.lb_select_base.specs.Draws.{IsNotRandom};
@@ -9,8 +8,7 @@ ghost use Rattle.lb_select.specs.WeightLaws.{Each-words, few_words, rest_none, r
 ghost use Rattle.lb_select.specs.Weights.{weighted_refusal, IsWeightedRest, IsWeightedWalk};
 
 use lb_select::selection::RoundRobin;
-use lb_select::weighted::{WeightedIterator, WeightedWalk};
-use lb_select_base::algorithms;
+use lb_select::weighted::WeightedWalk;
 use lb_select_base::backend::Backend;
 use lb_select_base::refusal::Refusal;
 use lb_select_base::walk::BackendSelection;
@@ -33,7 +31,7 @@ impl Model for Gone {
 
 /// A selector in turn that counts once, when it is dropped.
 pub(crate) struct Noting {
-    selector: Arc<RoundRobin>,
+    selector: RoundRobin,
     gone: Gone,
 }
 
@@ -47,15 +45,13 @@ impl Drop for Noting {
 }
 
 impl BackendSelection for Noting {
-    type Iter = WeightedIterator<algorithms::RoundRobin>;
-
     type Config = Gone;
 
     type Walk = WeightedWalk;
 
     ghost walks = { λ ms gone. IsWeightedWalk ticket_word ms };
 
-    ghost members = { λ s. arc_value s.selector };
+    ghost members = { λ s. s.selector };
 
     ghost built_with = { λ s. tt };
 
@@ -67,7 +63,7 @@ impl BackendSelection for Noting {
 
     ghost fits = { λ s w. ⊤ };
 
-    ghost rest = { λ s w. IsWeightedRest ticket_word w.first (arc_value s.selector) w.word };
+    ghost rest = { λ s w. IsWeightedRest ticket_word w.first s.selector w.word };
 
     ghost undrawn = { λ ms gone never key ds cs e h.
         Each-words ticket_word IsNotRandom (λ key ds w h. ticket_drawn w ds h) key (h.word ∷ h.later) ds h.drawn };
@@ -75,9 +71,9 @@ impl BackendSelection for Noting {
     ghost few_words = { λ ms gone key ds cs e h.
         few_words ticket_word (λ key ds w h. one_ticket w ds h) ms key ds cs e h };
 
-    ghost rest_starts = { λ s w. rest_none ticket_word w.first (arc_value s.selector) w.word };
+    ghost rest_starts = { λ s w. rest_none ticket_word w.first s.selector w.word };
 
-    ghost rest_ends = { λ s w. rest_ends ticket_word w.first (arc_value s.selector) w.word };
+    ghost rest_ends = { λ s w. rest_ends ticket_word w.first s.selector w.word };
 
     fn build(alloc: Global, backends: &BTreeSet<Backend>) -> Result<Noting, Refusal> {
         Noting::build_with_config(alloc, backends, &Gone(None))
@@ -89,7 +85,6 @@ impl BackendSelection for Noting {
         gone: &Gone,
     ) -> Result<Noting, Refusal> {
         let selector = RoundRobin::build(alloc, backends)?;
-        let selector = Arc::new(alloc, selector)?;
         let count = match &gone.0 {
             Some(count) => Some(count.clone()?),
             None => None,
@@ -98,15 +93,6 @@ impl BackendSelection for Noting {
             selector,
             gone: Gone(count),
         })
-    }
-
-    fn iter<W: WordSource>(
-        of: &Arc<Noting>,
-        key: &[u8],
-        words: &mut W,
-    ) -> Result<WeightedIterator<algorithms::RoundRobin>, Refusal> {
-        let noting: &Noting = &**of;
-        RoundRobin::iter(&noting.selector, key, words)
     }
 
     fn start<W: WordSource>(&self, key: &[u8], words: &mut W) -> Result<WeightedWalk, Refusal> {

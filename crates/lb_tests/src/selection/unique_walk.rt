@@ -5,9 +5,10 @@ use crate::selection::fixtures::{is_text, push_address, selector_of, set_of, wor
 use crate::selection::list_iterator::ListIterator;
 use lb_select::selection::RoundRobin;
 use lb_select_base::backend::Backend;
+use lb_select_base::iter::Iter;
 use lb_select_base::refusal::Refusal;
 use lb_select_base::unique::UniqueIterator;
-use lb_select_base::walk::{BackendIter, BackendSelection};
+use lb_select_base::walk::BackendIter;
 use lb_select_base::words::CoreWords;
 use rand_pcg::Pcg64;
 use std::alloc::Global;
@@ -79,7 +80,7 @@ fn repeated_turns(alloc: Global) -> Result<String, Refusal> {
     let set = set_of(alloc, &[("1.0.0.1:80", 5), ("1.0.0.2:80", 1)])?;
     let selector: Arc<RoundRobin> = selector_of(alloc, &set)?;
     let mut words = words_from(0);
-    let walk = RoundRobin::iter(&selector, b"", &mut words)?;
+    let walk = Iter::new(&selector, b"", &mut words)?;
     turns(alloc, walk, &mut words, 4, 3)
 }
 

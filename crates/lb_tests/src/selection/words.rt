@@ -2,6 +2,7 @@
 use crate::selection::fixtures::{selector_of, set_of, words_from};
 use lb_select::selection::Random;
 use lb_select_base::backend::Backend;
+use lb_select_base::iter::Iter;
 use lb_select_base::refusal::Refusal;
 use lb_select_base::select::select;
 use lb_select_base::walk::{BackendIter, BackendSelection};
@@ -50,7 +51,7 @@ fn heavy_ones<W: WordSource>(alloc: Global, words: &mut W) -> Result<u32, Refusa
     let selector: Arc<Random> = selector_of(alloc, &set)?;
     let mut heavy = 0u32;
     for _ in 0..10_000u32 {
-        let mut walk = Random::iter(&selector, b"test", words)?;
+        let mut walk = Iter::new(&selector, b"test", words)?;
         if walk.next(words).is_some_and(|backend| backend.weight == 8) {
             heavy = heavy.wrapping_add(1);
         }

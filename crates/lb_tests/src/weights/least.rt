@@ -3,6 +3,7 @@ use crate::selection::fixtures::{
     is_text, numbered, push_walk, selector_of, set_of_weights, words_with,
 };
 use lb_select::least::LeastConnections;
+use lb_select_base::iter::Iter;
 use lb_select_base::refusal::Refusal;
 use lb_select_base::walk::BackendSelection;
 use lb_select_base::words::CoreWords;
@@ -27,12 +28,12 @@ fn push_as_loads_change(
     selector: &Arc<LeastConnections>,
     words: &mut CoreWords<Pcg64>,
 ) -> Result<(), Refusal> {
-    let mut walk = LeastConnections::iter(selector, b"", words)?;
+    let mut walk = Iter::new(selector, b"", words)?;
     push_walk(alloc, text, &mut walk, words, 1)?;
     words.set_load(alloc, &numbered(alloc, 2, 3), u64::MAX)?;
     words.set_load(alloc, &numbered(alloc, 0, 1), 0)?;
     push_walk(alloc, text, &mut walk, words, 4)?;
-    let mut walk = LeastConnections::iter(selector, b"k", words)?;
+    let mut walk = Iter::new(selector, b"k", words)?;
     push_walk(alloc, text, &mut walk, words, 3)
 }
 

@@ -17,12 +17,12 @@ use Rattle.lb_cost.proofs.soak_threads.start_user.Goals as goal
 pub spawn-started-requires-send-F : goal.spawn-started-requires-send-F
 spawn-started-requires-send-F g c κs within =
     let T = param 0 g.row.S in let D = param 1 g.row.D in let R = param 2 g.row.R in let H = param 3 g.row.C in
-    let I = param 5 g.row.S-Iter in let C = param 6 g.row.S-Config in let W = param 7 g.row.S-Walk in
+    let C = param 5 g.row.S-Config in let W = param 6 g.row.S-Walk in
     let b = c.type_bounds in
-    let group = handle.the_row T D R H I C W g.S.BackendSelection g.S.Iter.BackendIter g.R.KeyRule in
-    let s = handle_send T D R H I C W g.S.BackendSelection g.S.Iter.BackendIter g.R.KeyRule b.send-S b.send-S-Config b.sync-S
+    let group = handle.the_row T D R H C W g.S.BackendSelection g.R.KeyRule in
+    let s = handle_send T D R H C W g.S.BackendSelection g.R.KeyRule b.send-S b.send-S-Config b.sync-S
     b.sync-S-Config b.send-D b.sync-D b.send-R b.sync-R b.send-C b.sync-C in
-    let y = handle_sync T D R H I C W g.S.BackendSelection g.S.Iter.BackendIter g.R.KeyRule b.send-S b.send-S-Config b.sync-S
+    let y = handle_sync T D R H C W g.S.BackendSelection g.R.KeyRule b.send-S b.send-S-Config b.sync-S
     b.sync-S-Config b.send-D b.sync-D b.send-R b.sync-R b.send-C b.sync-C in
     sent 1 _ no _
     (Arc.the_row group heap.the_row ghosts ∷ copied 4 g.row.W ∷ heap.the_row ∷ Arc.the_row tally.the_row heap.the_row ghosts ∷ [])

@@ -15,13 +15,12 @@ use Rattle.lb_crowd.proofs.crowd.starts_reader.Goals as goal
 -- what the closure captures, in the order of its use: the group, the runtime, the allocator and the counts
 pub spawn-started-requires-send-F : goal.spawn-started-requires-send-F
 spawn-started-requires-send-F g c κs within =
-    let T = param 0 g.row.S in let R = param 1 g.row.R in let H = param 2 g.row.C in let I = param 4 g.row.S-Iter in
-    let C = param 5 g.row.S-Config in let W = param 6 g.row.S-Walk in
+    let T = param 0 g.row.S in let R = param 1 g.row.R in let H = param 2 g.row.C in let C = param 4 g.row.S-Config in let W = param 5 g.row.S-Walk in
     let b = c.type_bounds in
-    let group = shared.the_row T R H I C W g.S.BackendSelection g.S.Iter.BackendIter g.R.KeyRule in
-    let s = shared_send T R H I C W g.S.BackendSelection g.S.Iter.BackendIter g.R.KeyRule b.send-S b.send-S-Config b.sync-S b.sync-S-Config
+    let group = shared.the_row T R H C W g.S.BackendSelection g.R.KeyRule in
+    let s = shared_send T R H C W g.S.BackendSelection g.R.KeyRule b.send-S b.send-S-Config b.sync-S b.sync-S-Config
     b.send-R b.sync-R b.send-C b.sync-C in
-    let y = shared_sync T R H I C W g.S.BackendSelection g.S.Iter.BackendIter g.R.KeyRule b.send-S b.send-S-Config b.sync-S b.sync-S-Config
+    let y = shared_sync T R H C W g.S.BackendSelection g.R.KeyRule b.send-S b.send-S-Config b.sync-S b.sync-S-Config
     b.send-R b.sync-R b.send-C b.sync-C in
     sent 1 _ no _ (Arc.the_row group heap.the_row ghosts ∷ copied 3 g.row.W ∷ heap.the_row ∷ u64 ∷ u64 ∷ [])
     (Arc-send group s y, (b.send-W, (send, (search sendable depth 20, (search sendable depth 20, tt)))))

@@ -11,7 +11,7 @@ use Rattle.lb_balancer_group.proofs.group.fn.LoadBalancerGroup.run.start.Goals a
 
 pub start_workers-requires-send-S : goal.start_workers-requires-send-S
 start_workers-requires-send-S g c κs within =
-    let row = Configured.the_row (param 0 g.row.S) (param 4 g.row.S-Iter) (param 5 g.row.S-Config) (param 6 g.row.S-Walk) in
+    let row = Configured.the_row (param 0 g.row.S) (param 4 g.row.S-Config) (param 5 g.row.S-Walk) in
     let moves = param_send 0 g.row.S c.requires.1.1.1.1.1.1.1.1.1.1.1.1.1.1.1.1.1.0 in
     let shares = param_sync 0 g.row.S c.requires.1.1.1.1.1.1.1.1.1.1.1.1.1.1.1.1.1.8 in
     let crossing : IsSend row = search (sendable, crosses, configured.the_send, moves, shares) depth 20 in
@@ -31,8 +31,8 @@ start_workers-requires-send-S-Iter g c κs within =
 
 pub start_workers-requires-send-S-Config : goal.start_workers-requires-send-S-Config
 start_workers-requires-send-S-Config g c κs within =
-    let row = SlotConfig.the_row (param 0 g.row.S) (param 4 g.row.S-Iter) (param 5 g.row.S-Config) (param 6 g.row.S-Walk)
-    g.S.BackendSelection g.S.Iter.BackendIter in
+    let row = SlotConfig.the_row (param 0 g.row.S) (param 4 g.row.S-Config) (param 5 g.row.S-Walk)
+    g.S.BackendSelection in
     let moves = param_send 5 g.row.S-Config c.requires.1.1.1.1.1.1.1.1.1.1.1.1.1.1.1.1.1.4 in
     let shares = param_sync 5 g.row.S-Config c.requires.1.1.1.1.1.1.1.1.1.1.1.1.1.1.1.1.1.12 in
     let crossing : IsSend row = search (sendable, crosses, config.the_send, moves, shares) depth 20 in
@@ -44,7 +44,7 @@ start_workers-requires-send-S-Walk g c κs within =
 
 pub start_workers-requires-sync-S : goal.start_workers-requires-sync-S
 start_workers-requires-sync-S g c κs within =
-    let row = Configured.the_row (param 0 g.row.S) (param 4 g.row.S-Iter) (param 5 g.row.S-Config) (param 6 g.row.S-Walk) in
+    let row = Configured.the_row (param 0 g.row.S) (param 4 g.row.S-Config) (param 5 g.row.S-Walk) in
     let moves = param_send 0 g.row.S c.requires.1.1.1.1.1.1.1.1.1.1.1.1.1.1.1.1.1.0 in
     let shares = param_sync 0 g.row.S c.requires.1.1.1.1.1.1.1.1.1.1.1.1.1.1.1.1.1.8 in
     let crossing : IsSync row = search (sendable, crosses, configured.the_sync, moves, shares) depth 20 in
@@ -52,8 +52,8 @@ start_workers-requires-sync-S g c κs within =
 
 pub start_workers-requires-sync-S-Config : goal.start_workers-requires-sync-S-Config
 start_workers-requires-sync-S-Config g c κs within =
-    let row = SlotConfig.the_row (param 0 g.row.S) (param 4 g.row.S-Iter) (param 5 g.row.S-Config) (param 6 g.row.S-Walk)
-    g.S.BackendSelection g.S.Iter.BackendIter in
+    let row = SlotConfig.the_row (param 0 g.row.S) (param 4 g.row.S-Config) (param 5 g.row.S-Walk)
+    g.S.BackendSelection in
     let moves = param_send 5 g.row.S-Config c.requires.1.1.1.1.1.1.1.1.1.1.1.1.1.1.1.1.1.4 in
     let shares = param_sync 5 g.row.S-Config c.requires.1.1.1.1.1.1.1.1.1.1.1.1.1.1.1.1.1.12 in
     let crossing : IsSync row = search (sendable, crosses, config.the_sync, moves, shares) depth 20 in
