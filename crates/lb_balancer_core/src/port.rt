@@ -64,7 +64,7 @@ pub trait GroupPort<S: BackendSelection>: TakesBack<RefusedJob<S>, Built<S>, Rea
     // Port before, members, settings, moment, answer, port after; and so on for each call.
     ghost scheduled: { Self → List Member → List (Member × Bool) → ℕ → Result Scheduled Refusal → Self → Type 0 };
 
-    ghost asked: { Self → ℕ → ℕ → Result (Ask S S.Iter S.Config S.Walk) Refusal → Self → Type 0 };
+    ghost asked: { Self → ℕ → ℕ → Result (Ask S S.Config S.Walk) Refusal → Self → Type 0 };
 
     ghost entered: { Self → ℕ → Result (ReaderValue S.Config) Refusal → Self → Type 0 };
 
