@@ -8,7 +8,7 @@ use lb_select_base::backend::Backend;
 use lb_select_base::iter::Iter;
 use lb_select_base::refusal::Refusal;
 use lb_select_base::select::select;
-use lb_select_base::walk::{BackendIter, BackendSelection};
+use lb_select_base::walk::BackendIter;
 use lb_select_base::words::{CoreWords, WordSource};
 use rand_pcg::Pcg64;
 use std::alloc::Global;

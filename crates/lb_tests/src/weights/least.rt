@@ -5,7 +5,6 @@ use crate::selection::fixtures::{
 use lb_select::least::LeastConnections;
 use lb_select_base::iter::Iter;
 use lb_select_base::refusal::Refusal;
-use lb_select_base::walk::BackendSelection;
 use lb_select_base::words::CoreWords;
 use rand_pcg::Pcg64;
 use std::alloc::Global;
