@@ -1,6 +1,7 @@
 -- The earlier of three causes, however they are taken.
 use Rattle.std.proofs.Common.{◌≡◌, ℕ, suc, ◌+◌, ◌∙◌, ◌++◌, ◌⊎◌, inl, inr, sym, ap, List, [], ◌∷◌, map, drop, length, get_or, drop-cons, ◌<◌}
 use Rattle.std.proofs.Common.{◌≤◌, nat_lt, cond, true, false, Bool, refl, Option, Some, None, arith}
+use Rattle.std.proofs.lemmas.Bool.{cond_both}
 use Rattle.std.proofs.lemmas.Bool.Decides.{nat_tests}
 use Rattle.std.proofs.lemmas.List.{drop_all, map-append}
 use Rattle.lb_select_base.specs.declared.refusal.Refusal.{Refusal}
@@ -75,3 +76,19 @@ module _ {A : Type 0} (f : A → Option Refusal) where
   -- one more was looked at, and it is not refused
   pub granted_more : (xs : List A) (x : A) → f x ≡ None → least (map f xs) ≡ least (map f (xs ++ x ∷ []))
   granted_more xs x is = sym (rw (map-append f xs (x ∷ []), least-push (map f xs) (f x), is) (earlier-none (least (map f xs))))
+
+-- the least cause is never the want of memory
+apart-earlier : (p q : Option Refusal) → memory_apart p ≡ p → memory_apart q ≡ q → memory_apart (earlier p q) ≡ earlier p q
+apart-earlier None q a b = b
+apart-earlier (Some e) None a b = a
+apart-earlier (Some e) (Some f) a b =
+    cond_both (nat_lt (refusal_number f) (refusal_number e)) (Some f) (Some e) (λ o. memory_apart o ≡ o) (λ t. b) (λ t. a)
+
+apart-twice : (c : Option Refusal) → memory_apart (memory_apart c) ≡ memory_apart c
+apart-twice None = refl
+apart-twice (Some OutOfMemory) = refl
+apart-twice (Some e) = refl
+
+pub least-apart : (cs : List (Option Refusal)) → memory_apart (least cs) ≡ least cs
+least-apart [] = refl
+least-apart (c ∷ cs) = apart-earlier (memory_apart c) (least cs) (apart-twice c) (least-apart cs)
