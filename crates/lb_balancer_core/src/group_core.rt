@@ -13,9 +13,12 @@ ghost use Rattle.lb_rebuild_core.specs.GroupCalls.{AcceptsBy, IsMakingRefusal, J
 ghost use Rattle.lb_rebuild_core.specs.GroupHistory.{in_group, slot_events};
 ghost use Rattle.lb_rebuild_core.specs.GroupStates.{After, Becomes, SameSite, Stands};
 ghost use Rattle.lb_balancer_core.specs.GroupUpdates.{IsGroupUpdated, IsGroupRefusal};
+ghost use Rattle.lb_balancer_core.specs.SlotConfigs.{slot_configs};
 ghost use Rattle.lb_balancer_core.specs.Timings.{last_timing};
 
+use crate::configured::{Configured, SlotConfig};
 use crate::lent::LentGroupBackends;
+use crate::slot_configs::{configs_of, least_cause};
 use crate::timings::{SelectorUpdateTimings, UpdateTimings};
 use lb_health_core::keys::KeyRule;
 use lb_health_core::registry::Registry;
@@ -36,26 +39,29 @@ use std::alloc::Global;
 #[derive(Drop)]
 pub struct LoadBalancerGroupCore<S: BackendSelection, D> {
     pub discovery: DiscoverySource<D>,
-    pub group: GroupCore<S>,
+    pub group: GroupCore<Configured<S>>,
     pub loads: Loads,
     pub timing: Option<UpdateTimings>,
 }
 
 impl<S: BackendSelection, D: ServiceDiscovery + Drop> LoadBalancerGroupCore<S, D> {
-    /// Returns a group of one slot for each configuration, with a view of its own in the registry, at generation 0.
+    /// Returns a group of one slot for each configuration, with a view of its own in the registry, at generation 0. A slot without a
+    /// configuration has that of `S::build`.
     ///
     /// # Errors
     ///
-    /// Those of `GroupCore::new`; the registry is then as before.
+    /// The least cause for which one of the configurations gives no selector over no backends; where there is none, `NumbersExhausted`
+    /// exactly where no number is left for a view, and else `OutOfMemory` where memory is refused. The registry is then as before.
     pub fn from_backends_with_configs<R: KeyRule + Drop>(
         alloc: Global,
         registry: &mut Registry<R>,
         gate: &GateCore,
         discovery: DiscoverySource<D>,
-        configs: Vec<S::Config>,
+        configs: Vec<Option<S::Config>>,
     ) -> Result<LoadBalancerGroupCore<S, D>, Refusal>
         ensures stands { IfOk result (λ b. Stands
-            (record { id = b.group.group.id; gate = gate.now.id; configs = configs.items }) [] b.group) }
+            (record { id = b.group.group.id; gate = gate.now.id; configs = slot_configs S.default_config configs.items }) []
+            b.group) }
         ensures site { IfOk result (λ b. b.group.registry ≡ registry.old.id) }
         ensures one_registry { registry.new.id ≡ registry.old.id }
         ensures gate { IfOk result (λ b. b.group.group.gate ≡ gate.now.id) }
@@ -68,10 +74,16 @@ impl<S: BackendSelection, D: ServiceDiscovery + Drop> LoadBalancerGroupCore<S, D
         ensures err { OnErr result ((key_of : Member → Member) (events : List Event) → IsRegistryAfter R.gives key_of events registry.old
             → IsRegistryAfter R.gives key_of events registry.new) }
         ensures exhausted { (key_of : Member → Member) (events : List Event) → IsRegistryAfter R.gives key_of events registry.old
-            → memory_apart (least (map (S.refusal []) configs.items)) ≡ None
+            → memory_apart (least (map (S.refusal []) (slot_configs S.default_config configs.items))) ≡ None
             → (IsErrOf result Refusal.NumbersExhausted ↔ (2 ^ 64 ≤ registered_after events + 1)) }
-        ensures refused { IsMakingRefusal (least (map (S.refusal []) configs.items)) result }
+        ensures refused { IsMakingRefusal (least (map (S.refusal []) (slot_configs S.default_config configs.items))) result }
     {
+        match least_cause::<S>(alloc, configs.as_slice()) {
+            Some(refusal) => return Err(refusal),
+            None if registry.is_full() => return Err(Refusal::NumbersExhausted),
+            None => {}
+        }
+        let configs: Vec<SlotConfig<S>> = configs_of(alloc, configs)?;
         match GroupCore::new(alloc, registry, gate, configs) {
             Ok(group) => Ok(LoadBalancerGroupCore {
                 discovery,

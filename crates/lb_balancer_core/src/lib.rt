@@ -5,6 +5,7 @@
 
 pub mod balancer_core;
 pub mod build;
+pub mod configured;
 pub mod group_core;
 pub mod lent;
 pub mod plain;
@@ -12,6 +13,7 @@ mod plain_calls;
 pub mod port;
 pub mod select;
 pub mod served;
+pub mod slot_configs;
 pub mod timings;
 pub mod turn;
 pub mod update;

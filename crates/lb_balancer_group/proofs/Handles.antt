@@ -10,12 +10,12 @@ use Rattle.lb_health_view.proofs.discovery.DiscoverySource.TheSendSync as discov
 use Rattle.lb_threads_core.proofs.registry.HealthRegistry.TheSendSync as registry
 use Rattle.lb_threads_group.specs.contracts.group.SharedGroup as shared
 use Rattle.lb_threads_group.proofs.Crossings.{shared_send, shared_sync}
-use Rattle.lb_balancer_group.specs.contracts.configured.Configured as Configured
-use Rattle.lb_balancer_group.specs.contracts.configured.SlotConfig as SlotConfig
-use Rattle.lb_balancer_group.specs.contracts.configured.ConfiguredBackendSelection.TheImpl as chosen
-use Rattle.lb_balancer_group.specs.contracts.configured.ConfiguredBackendSelection.TheImpl.{no_dict}
-use Rattle.lb_balancer_group.proofs.configured.Configured.TheSendSync as configured
-use Rattle.lb_balancer_group.proofs.configured.SlotConfig.TheSendSync as config
+use Rattle.lb_balancer_core.specs.contracts.configured.Configured as Configured
+use Rattle.lb_balancer_core.specs.contracts.configured.SlotConfig as SlotConfig
+use Rattle.lb_balancer_core.specs.contracts.configured.ConfiguredBackendSelection.TheImpl as chosen
+use Rattle.lb_balancer_core.specs.contracts.configured.ConfiguredBackendSelection.TheImpl.{no_dict}
+use Rattle.lb_balancer_core.proofs.configured.Configured.TheSendSync as configured
+use Rattle.lb_balancer_core.proofs.configured.SlotConfig.TheSendSync as config
 use Rattle.lb_balancer_group.specs.contracts.group.LoadBalancerGroup as handle
 
 module _ (T D R H C W : RattleType) (g : Selection T.Denot C.Denot W.Denot) (k : Keys R.Denot) (s : IsSend T)

@@ -1,5 +1,5 @@
 -- What a group is that was just made.
-use Rattle.std.specs.Prelude.{◌≡◌, ◌<◌, List, [], Option, None, Result, Ok, Err, map, unwrap_or}
+use Rattle.std.specs.Prelude.{◌≡◌, ◌<◌, List, [], Option, None, Result, Ok, Err}
 use Rattle.lb_select_base.specs.declared.refusal.Refusal.{Refusal}
 use Rattle.lb_rebuild_core.specs.SlotsHistory.{newest}
 use Rattle.lb_rebuild_core.specs.GroupCalls.{IsMakingRefusal}
@@ -12,10 +12,6 @@ use Rattle.lb_balancer_group.specs.declared.gate_refusal.GateRefusal.TheVariants
 -- nothing has happened to it, and it has a slot for each of these configurations
 abbrev pub IsNewGroup : {C : Type 0} → List C → GroupValue C → Type 0
 IsNewGroup configs v = Stands (record { id = v.group.id; gate = v.group.gate; configs = configs }) [] v
-
--- what the slots of a group are built with: the default one where none is given
-abbrev pub slot_configs : {C : Type 0} → C → List (Option C) → List C
-slot_configs default configs = map (λ c. unwrap_or c default) configs
 
 -- A group takes another gate unless it was seen past generation 0, or can't be made with that gate.
 abbrev pub IsGateRefusal : {C : Type 0} → GroupValue C → Option Refusal → Result (Unit {0}) GateRefusal → Type 0

@@ -7,8 +7,8 @@ ghost use Rattle.lb_rebuild_core.specs.GroupStates.{After};
 ghost use Rattle.lb_threads_group.specs.Group.{FlaggedUnder, NewestReadyUnder, Seen};
 ghost use Rattle.lb_threads_group.specs.Numbers.{SawNewest};
 
-use crate::configured::Configured;
 use crate::group::LoadBalancerGroup;
+use lb_balancer_core::configured::Configured;
 use lb_health_core::health_check::HealthCheck;
 use lb_health_core::keys::KeyRule;
 use lb_health_view::discovery::ServiceDiscovery;

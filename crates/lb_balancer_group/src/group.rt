@@ -8,11 +8,13 @@ ghost use Rattle.lb_health_view.specs.Discoveries.{FoundBy};
 ghost use Rattle.lb_balancer_core.specs.Looks.{Answers};
 ghost use Rattle.lb_threads_group.specs.Group.{UpdatedUnder};
 ghost use Rattle.lb_threads_group.specs.Kept.{SelectedFrom};
-ghost use Rattle.lb_balancer_group.specs.Made.{IsGateRefusal, IsNewGroup, slot_configs};
+ghost use Rattle.lb_balancer_core.specs.SlotConfigs.{slot_configs};
+ghost use Rattle.lb_balancer_group.specs.Made.{IsGateRefusal, IsNewGroup};
 
-use crate::configured::{Configured, SlotConfig};
 use crate::gate_refusal::GateRefusal;
-use crate::making::{configs_of, first_cause, opened, own_gate};
+use crate::making::{first_cause, opened, own_gate};
+use lb_balancer_core::configured::{Configured, SlotConfig};
+use lb_balancer_core::slot_configs::configs_of;
 use lb_health_core::health_check::{BoxedCheck, HealthCheck};
 use lb_health_core::keys::{KeyRule, Rule};
 use lb_health_view::discovery::{BoxedDiscovery, DiscoverySource, ServiceDiscovery};

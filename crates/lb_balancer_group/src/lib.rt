@@ -3,7 +3,6 @@
 #![tactic(auto)]
 
 pub mod backends;
-pub mod configured;
 pub mod drive;
 pub mod gate_refusal;
 pub mod group;

@@ -1,16 +1,16 @@
 //! Making a group from its parts.
-ghost use Rattle.std.specs.Prelude.{◌≡◌, ◌+◌, ◌⊎◌, [], Some, None, map, length, unwrap_or, IfErr, IfOk, IfSome, IfNone};
+ghost use Rattle.std.specs.Prelude.{◌≡◌, ◌+◌, ◌⊎◌, [], Some, None, map, length, IfErr, IfOk, IfSome, IfNone};
 ghost use Rattle.std.specs.Arc.{arc_value};
-ghost use Rattle.lb_select_base.specs.Refusals.{least, memory_apart as apart};
+ghost use Rattle.lb_select_base.specs.Refusals.{least};
 ghost use Rattle.lb_rebuild_core.specs.GroupCalls.{IsMakingRefusal};
-ghost use Rattle.lb_balancer_group.specs.Made.{IsNewGroup, slot_configs};
+ghost use Rattle.lb_balancer_core.specs.SlotConfigs.{slot_configs};
+ghost use Rattle.lb_balancer_group.specs.Made.{IsNewGroup};
 
-use crate::configured::{Configured, SlotConfig};
+use lb_balancer_core::configured::{Configured, SlotConfig};
+use lb_balancer_core::slot_configs::least_cause;
 use lb_health_core::health_check::HealthCheck;
 use lb_health_core::keys::KeyRule;
 use lb_rebuild_core::group::GroupCore;
-use lb_select_base::backend::Backend;
-use lb_select_base::causes::{earlier, memory_apart};
 use lb_select_base::refusal::Refusal;
 use lb_select_base::walk::BackendSelection;
 use lb_threads_core::gate::{SelectorRebuildGate, put_gate, take_gate};
@@ -19,7 +19,6 @@ use lb_threads_core::registry::{HealthRegistry, put_registry, take_registry};
 use lb_threads_group::group::SharedGroup;
 use rand_pcg::Pcg64;
 use std::alloc::Global;
-use std::collections::BTreeSet;
 use std::sync::{Arc, Wait};
 
 // A group with a view of its own in the registry; both locks are held for this one call.
@@ -84,51 +83,6 @@ pub(crate) fn first_cause<S: BackendSelection, R: KeyRule + Drop, C: HealthCheck
         None if registry.is_full(rt) => Some(Refusal::NumbersExhausted),
         None => None,
     }
-}
-
-// The least cause for which one of these configurations gives no selector over no backends, memory apart.
-fn least_cause<S: BackendSelection>(alloc: Global, configs: &[Option<S::Config>]) -> Option<Refusal>
-    ensures { result ≡ least (map (S.refusal []) (slot_configs S.default_config configs.now)) }
-{
-    let empty = BTreeSet::new(alloc);
-    let mut found = None;
-    for config in configs {
-        found = earlier(found, cause_over::<S>(alloc, &empty, config));
-    }
-    found
-}
-
-// Why there is no selector over this set, memory apart.
-fn cause_over<S: BackendSelection>(
-    alloc: Global,
-    backends: &BTreeSet<Backend>,
-    config: &Option<S::Config>,
-) -> Option<Refusal>
-    ensures { result ≡ apart (S.refusal backends.now.keys (unwrap_or config.now S.default_config)) }
-{
-    let built = match config {
-        Some(config) => S::build_with_config(alloc, backends, config),
-        None => S::build(alloc, backends),
-    };
-    match built {
-        Ok(_) => None,
-        Err(refusal) => memory_apart(refusal),
-    }
-}
-
-// The configurations of a group's slots.
-pub(crate) fn configs_of<S: BackendSelection>(
-    alloc: Global,
-    configs: Vec<Option<S::Config>>,
-) -> Result<Vec<SlotConfig<S>>, Refusal>
-    ensures made { IfOk result (λ c. c.items ≡ slot_configs S.default_config configs.items) }
-    ensures refused { IfErr result (λ e. e ≡ Refusal.OutOfMemory) }
-{
-    let mut slots = Vec::new(alloc);
-    for config in configs {
-        slots.push(SlotConfig::new(alloc, config)?)?;
-    }
-    Ok(slots)
 }
 
 // The same configurations once more.

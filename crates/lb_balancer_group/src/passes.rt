@@ -8,8 +8,8 @@ ghost use Rattle.lb_health_view.specs.Discoveries.{FoundBy};
 ghost use Rattle.lb_threads_group.specs.Group.{EnteredUnder, LeftUnder, UpdatedUnder};
 ghost use Rattle.lb_threads_group.specs.Shared.{IsEntryRefusal, SelectsByAny};
 
-use crate::configured::Configured;
 use crate::group::LoadBalancerGroup;
+use lb_balancer_core::configured::Configured;
 use lb_health_core::health_check::HealthCheck;
 use lb_health_core::keys::KeyRule;
 use lb_health_view::discovery::ServiceDiscovery;

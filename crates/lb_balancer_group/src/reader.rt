@@ -4,8 +4,8 @@ ghost use Rattle.std.specs.Arc.{arc_value};
 ghost use Rattle.lb_balancer_core.specs.Looks.{Answers};
 ghost use Rattle.lb_threads_group.specs.Kept.{SelectedFrom};
 
-use crate::configured::Configured;
 use crate::group::LoadBalancerGroup;
+use lb_balancer_core::configured::Configured;
 use lb_health_core::health_check::{BoxedCheck, HealthCheck};
 use lb_health_core::keys::{KeyRule, Rule};
 use lb_health_view::discovery::ServiceDiscovery;

@@ -10,8 +10,8 @@ ghost use Rattle.lb_threads_group.specs.Numbers.{SawNewest, SawOfSlot};
 ghost use Rattle.lb_balancer_core.specs.Timings.{last_timing};
 ghost use Rattle.lb_balancer_group.specs.Readiness.{AllServe, OneLags};
 
-use crate::configured::Configured;
 use crate::group::LoadBalancerGroup;
+use lb_balancer_core::configured::Configured;
 use lb_balancer_core::timings::{SelectorUpdateTimings, UpdateTimings};
 use lb_health_core::health_check::HealthCheck;
 use lb_health_core::keys::KeyRule;

@@ -2,7 +2,7 @@
 ghost use Rattle.std.specs.Prelude.{◌≡◌};
 
 use crate::counted::{Counted, Counting, Counts};
-use lb_balancer_group::configured::Configured;
+use lb_balancer_core::configured::Configured;
 use lb_balancer_group::gate_refusal::GateRefusal;
 use lb_balancer_group::group::LoadBalancerGroup;
 use lb_health_core::error::CheckError;

@@ -11,6 +11,7 @@ pub mod Histories
 pub mod Holds
 pub mod Joins
 pub mod Judging
+pub mod LeastApart
 pub mod Ledger
 pub mod Memberships
 pub mod Pasts

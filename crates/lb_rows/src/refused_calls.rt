@@ -369,7 +369,7 @@ fn new_group<'a>(
     ensures one_registry { registry.new.id ≡ registry.old.id }
 {
     let mut configs = Vec::new(alloc);
-    configs.push(())?;
+    configs.push(Some(()))?;
     let source = DiscoverySource::Boxed(Lists { other });
     LoadBalancerGroupCore::from_backends_with_configs(alloc, registry, gate, source, configs)
 }

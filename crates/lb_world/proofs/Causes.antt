@@ -5,7 +5,7 @@ use Rattle.std.proofs.Common.{inl, inr, refl, sym, ap, arith}
 use Rattle.std.specs.Prelude.{Option, Some, None, Result, Ok, Err, IsErrOf}
 use Rattle.lb_rebuild_core.specs.GroupCalls.{IsMakingRefusal}
 use Rattle.std.proofs.lemmas.Bool.{cond_both, le-leb, le-ltb, lt-leb, lt-ltb, ltb-false, ltb-true}
-use Rattle.lb_select_base.specs.Refusals.{earlier, least, memory_apart, refusal_number}
+use Rattle.lb_select_base.specs.Refusals.{earlier, memory_apart, refusal_number}
 use Rattle.lb_select_base.specs.declared.refusal.Refusal.{Refusal}
 use Rattle.lb_select_base.specs.declared.refusal.Refusal.TheVariants as refusal
 use Rattle.lb_world.specs.Steps.{Step}
@@ -69,22 +69,6 @@ no-causes p q is = let first = earlier-none p q is in (first, ap (λ o. earlier 
 pub none-missing : (b : Bool) → no_such b ≡ None → b ≡ true
 none-missing true is = refl
 none-missing false is = absurd (cc)
-
--- the least cause is never the want of memory
-apart-earlier : (p q : Option Refusal) → memory_apart p ≡ p → memory_apart q ≡ q → memory_apart (earlier p q) ≡ earlier p q
-apart-earlier None q a b = b
-apart-earlier (Some e) None a b = a
-apart-earlier (Some e) (Some f) a b =
-    cond_both (nat_lt (refusal_number f) (refusal_number e)) (Some f) (Some e) (λ o. memory_apart o ≡ o) (λ t. b) (λ t. a)
-
-apart-twice : (c : Option Refusal) → memory_apart (memory_apart c) ≡ memory_apart c
-apart-twice None = refl
-apart-twice (Some refusal.OutOfMemory) = refl
-apart-twice (Some e) = refl
-
-pub least-apart : (cs : List (Option Refusal)) → memory_apart (least cs) ≡ least cs
-least-apart [] = refl
-least-apart (c ∷ cs) = apart-earlier (memory_apart c) (least cs) (apart-twice c) (least-apart cs)
 
 abbrev pub IsRight : {C : Type 0} → Step C → Answer → Answer → Type 0
 IsRight st y a = (a ≡ y) ⊎ (a ≡ without_memory st y)

@@ -32,7 +32,7 @@ fn asks_another_gate(alloc: Global) -> Result<bool, Refusal> {
     let first = GateCore::new(alloc)?;
     let mut gate = GateCore::new(alloc)?;
     let mut configs = Vec::new(alloc);
-    configs.push(())?;
+    configs.push(None)?;
     let source = DiscoverySource::Boxed(Rows::from(0));
     let mut group: LoadBalancerGroupCore<LeastConnections, Rows> =
         LoadBalancerGroupCore::from_backends_with_configs(

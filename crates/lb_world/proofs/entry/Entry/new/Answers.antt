@@ -1,7 +1,8 @@
 -- By what the making of the core says of its refusals.
 use Rattle.lb_health_core.specs.RegistryEvents.{registered_after}
 use Rattle.lb_world.proofs.Words.{[], least, map}
-use Rattle.lb_world.proofs.Causes.{fits-for, least-apart, unmade-for}
+use Rattle.lb_rebuild_core.proofs.LeastApart.{least-apart}
+use Rattle.lb_world.proofs.Causes.{fits-for, unmade-for}
 use Rattle.lb_world.proofs.entry.Entry.new.Goals as goal
 
 pub returns-in-Ok-clause-uncaused : goal.returns-in-Ok-clause-uncaused

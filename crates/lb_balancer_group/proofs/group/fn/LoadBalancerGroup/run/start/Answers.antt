@@ -3,10 +3,10 @@ use denote.Exit.{no}
 use denote.Param.{param}
 use denote.Param.Send.{IsSend, IsSync, param_send, param_sync, arg_send, arg_sync, sendable}
 use Rattle.std.proofs.Crossing.{crosses}
-use Rattle.lb_balancer_group.specs.contracts.configured.Configured as Configured
-use Rattle.lb_balancer_group.specs.contracts.configured.SlotConfig as SlotConfig
-use Rattle.lb_balancer_group.proofs.configured.Configured.TheSendSync as configured
-use Rattle.lb_balancer_group.proofs.configured.SlotConfig.TheSendSync as config
+use Rattle.lb_balancer_core.specs.contracts.configured.Configured as Configured
+use Rattle.lb_balancer_core.specs.contracts.configured.SlotConfig as SlotConfig
+use Rattle.lb_balancer_core.proofs.configured.Configured.TheSendSync as configured
+use Rattle.lb_balancer_core.proofs.configured.SlotConfig.TheSendSync as config
 use Rattle.lb_balancer_group.proofs.group.fn.LoadBalancerGroup.run.start.Goals as goal
 
 pub start_workers-requires-send-S : goal.start_workers-requires-send-S

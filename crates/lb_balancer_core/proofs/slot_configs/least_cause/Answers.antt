@@ -2,7 +2,7 @@
 use Rattle.std.proofs.Common.{◌∙◌, ◌≡◌, List, [], ◌∷◌, arith, unwrap_or, map, refl, sym, ap}
 use Rattle.lb_select_base.specs.Refusals.{least}
 use Rattle.lb_select_base.proofs.LeastCauses.{at_end, one_more}
-use Rattle.lb_balancer_group.proofs.making.least_cause.Goals as goal
+use Rattle.lb_balancer_core.proofs.slot_configs.least_cause.Goals as goal
 
 both : {A B C : Type 0} (f : B → C) (g : A → B) (xs : List A) → map f (map g xs) ≡ map (λ x. f (g x)) xs
 both f g [] = refl

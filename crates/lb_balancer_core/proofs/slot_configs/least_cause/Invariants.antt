@@ -1,6 +1,6 @@
 use Rattle.std.proofs.Common.{◌≡◌, [], map, drop, unwrap_or}
 use Rattle.lb_select_base.specs.Refusals.{least, earlier}
-use Rattle.lb_balancer_group.proofs.making.least_cause.Given as goal
+use Rattle.lb_balancer_core.proofs.slot_configs.least_cause.Given as goal
 
 abbrev pub invariant-loop-config : goal.invariant-loop-config
 invariant-loop-config g l =
