@@ -10,8 +10,8 @@ use Rattle.lb_select_base.specs.declared.refusal.Refusal.TheVariants as refusal
 use Rattle.lb_rebuild_core.specs.Gate.{GateValue}
 use Rattle.lb_rebuild_core.specs.SlotsCalls.{IsJob, taken_refusal, publish_answer, publish_events}
 use Rattle.lb_rebuild_core.specs.SlotsHistory as core
-use Rattle.lb_rebuild_core.specs.SlotsHistory.{Granted, past_of, newest, served, extra, waits, is_extra, is_cancelled, is_flight}
-use Rattle.lb_rebuild_core.specs.SlotsHistory.{all_failures, due_moment, ask_answer, AskAnswer, cancelled, building, up_to_date, not_due}
+use Rattle.lb_rebuild_core.specs.SlotsHistory.{Granted, past_of, newest, extra, waits, is_extra, is_cancelled, is_flight}
+use Rattle.lb_rebuild_core.specs.SlotsHistory.{due_moment, ask_answer, cancelled, building, up_to_date, not_due}
 use Rattle.lb_rebuild_core.specs.SlotsHistory.{busy, job, Extra, nothing, readers}
 use Rattle.lb_rebuild_core.specs.Stands.{Made}
 use Rattle.lb_rebuild_core.specs.Values.{Task, BuiltValue, RetiredValue, PermitValue}
@@ -20,11 +20,11 @@ use Rattle.lb_rebuild_core.specs.declared.answers.Ask.TheVariants as asks
 use Rattle.lb_rebuild_core.specs.declared.answers.Publication.{Publication}
 use Rattle.lb_rebuild_core.specs.declared.answers.Publication.TheVariants as told
 use Rattle.lb_rebuild_core.proofs.Pasts.{past-same, newest-past, cancelled-past}
+use Rattle.lb_rebuild_core.specs.GroupCalls.{IsTaken, IsAsked, IsPublished}
 use Rattle.lb_rebuild_core.specs.GroupHistory.{History, At, slot_events, in_group}
 use Rattle.lb_rebuild_core.specs.GroupStates.{GroupValue, Stands, After, Becomes}
 use Rattle.lb_balancer_core.specs.Builds.{RefusedValue}
 use Rattle.lb_balancer_core.specs.Due.{IsDue, IsClear, EndsTurn, EndsDue}
-use Rattle.lb_balancer_core.specs.Plain.{IsTaken, IsAsked, IsPublished}
 use Rattle.lb_balancer_core.specs.Calls.{owed_of}
 use Rattle.lb_balancer_core.specs.Through.{Publishes, Fails, Answered, Asks, Clears, Turned, turn_of}
 use Rattle.lb_balancer_core.specs.declared.turn.Turn.{Turn}
@@ -73,7 +73,8 @@ module _ {S C W K P : Type 0} (refuses : List Member → C → Option Refusal) (
     → Becomes (core_of p) (in_group (core.At s core.Destroyed ∷ [])) (core_of q) × ((gate_of q).out ≡ false))
     (asked_is : (p : P) (s now : ℕ) (a : Result (Ask S C W) Refusal) (q : P) → asked p s now a q
     → IsAsked (core_of p) (gate_of p) s now a (core_of q) (gate_of q))
-    (published_is : (p : P) (b : BuiltValue C) (u : Publication) (q : P) → published p b u q → IsPublished (core_of p) b u (core_of q))
+    (published_is : (p : P) (b : BuiltValue C) (u : Publication) (q : P) → published p b u q
+    → IsPublished (core_of p) b (Ok u) (core_of q))
     (failed_is : (p : P) (r : RefusedValue C) (now : ℕ) (q : P) → failed p r now q
     → Becomes (core_of p) (in_group (core.At r.task.slot (core.Failed now r.task.members) ∷ [])) (core_of q))
     (slot : ℕ) where
@@ -98,13 +99,13 @@ module _ {S C W K P : Type 0} (refuses : List Member → C → Option Refusal) (
           due.live,
         ) refl in
         let answer : u ≡ told.Published (newest Events) =
-        (given.0 made (At slot (Granted now) ∷ e) s).1
+        (given.answers made (At slot (Granted now) ∷ e) s).1
         ∙ subst (λ (x : ℕ). publish_answer x j.generation h ≡ told.Published (newest Events)) (sym is.place)
         (subst (λ (x : ℕ). publish_answer slot x h ≡ told.Published (newest Events)) (sym is.generation) right) in
         let stands : Stands made (At j.slot (core.Published end j.members) ∷ At slot (Granted now) ∷ e) (core_of q) =
         subst (λ (x : Publication). Stands made (in_group (publish_events (record { task = j; ended = end }) (Ok x)) ++
         (At slot (Granted now) ∷ e)) (core_of q)) answer
-        (given.1 made (At slot (Granted now) ∷ e) s) in (
+        (given.stands made (At slot (Granted now) ∷ e) s) in (
           At slot (core.Published end j.members) ∷ At slot (Granted now) ∷ e,
           subst (λ (x : ℕ). Stands made (At x (core.Published end j.members) ∷ At slot (Granted now) ∷ e) (core_of q)) is.place stands,
           refl,
@@ -148,29 +149,30 @@ module _ {S C W K P : Type 0} (refuses : List Member → C → Option Refusal) (
     answered : (now : ℕ) (m n q : P) (k l : K) (a : Result (Ask S C W) Refusal) (r : Result Turn Refusal) → Stands made e (core_of m)
         → ask_answer Before (gate_of m).out now ≡ job → IsAsked (core_of m) (gate_of m) slot now a (core_of n) (gate_of n)
         → Answered refuses reads ends taken reported asked published failed slot a n k r q l → EndsTurn made e slot r (core_of q)
-    answered now m n q k l (Err x) r s is_job given next = let past = (given.0 made e s).1 in let there = due.there
+    answered now m n q k l (Err x) r s is_job given next = let past = (given.answers made e s).1 in let there = due.there
         in absurd (omega (arith, past, there))
-    answered now m n q k l (Ok asks.Cancelled) r s is_job given next = let told_ = (given.0 made e s).1 in absurd (cc)
-    answered now m n q k l (Ok asks.Building) r s is_job given next = let told_ = (given.0 made e s).1 in absurd (cc)
-    answered now m n q k l (Ok asks.Nothing) r s is_job given next = let told_ = (given.0 made e s).1 in absurd (cc)
-    answered now m n q k l (Ok (asks.NotDue x)) r s is_job given next = let told_ = (given.0 made e s).1 in absurd (cc)
-    answered now m n q k l (Ok asks.Busy) r s is_job given next = let told_ = (given.0 made e s).1 in absurd (cc)
-    answered now m n q k l (Ok (asks.Job j)) (Ok t) s is_job given next = flown j now n q k l t (given.0 made e s).2 (given.1 made e s) next
+    answered now m n q k l (Ok asks.Cancelled) r s is_job given next = let told_ = (given.answers made e s).1 in absurd (cc)
+    answered now m n q k l (Ok asks.Building) r s is_job given next = let told_ = (given.answers made e s).1 in absurd (cc)
+    answered now m n q k l (Ok asks.Nothing) r s is_job given next = let told_ = (given.answers made e s).1 in absurd (cc)
+    answered now m n q k l (Ok (asks.NotDue x)) r s is_job given next = let told_ = (given.answers made e s).1 in absurd (cc)
+    answered now m n q k l (Ok asks.Busy) r s is_job given next = let told_ = (given.answers made e s).1 in absurd (cc)
+    answered now m n q k l (Ok (asks.Job j)) (Ok t) s is_job given next =
+        flown j now n q k l t (given.answers made e s).2 (given.stands made e s) next
     answered now m n q k l (Ok (asks.Job j)) (Err x) s is_job given next = absurd next
 
     waited : (now d : ℕ) (m n q : P) (k l : K) (a : Result (Ask S C W) Refusal) (r : Result Turn Refusal) → Stands made e (core_of m)
         → ask_answer Before (gate_of m).out now ≡ not_due d → IsAsked (core_of m) (gate_of m) slot now a (core_of n) (gate_of n)
         → Answered refuses reads ends taken reported asked published failed slot a n k r q l → r ≡ Ok (turn.NotDue d)
-    waited now d m n q k l (Err x) r s waits_ given next = let past = (given.0 made e s).1 in let there = due.there
+    waited now d m n q k l (Err x) r s waits_ given next = let past = (given.answers made e s).1 in let there = due.there
         in absurd (omega (arith, past, there))
-    waited now d m n q k l (Ok asks.Cancelled) r s waits_ given next = let told_ = (given.0 made e s).1 in absurd (cc)
-    waited now d m n q k l (Ok asks.Building) r s waits_ given next = let told_ = (given.0 made e s).1 in absurd (cc)
-    waited now d m n q k l (Ok asks.Nothing) r s waits_ given next = let told_ = (given.0 made e s).1 in absurd (cc)
+    waited now d m n q k l (Ok asks.Cancelled) r s waits_ given next = let told_ = (given.answers made e s).1 in absurd (cc)
+    waited now d m n q k l (Ok asks.Building) r s waits_ given next = let told_ = (given.answers made e s).1 in absurd (cc)
+    waited now d m n q k l (Ok asks.Nothing) r s waits_ given next = let told_ = (given.answers made e s).1 in absurd (cc)
     waited now d m n q k l (Ok (asks.NotDue x)) r s waits_ given next =
-        let told_ : not_due x ≡ not_due d = (given.0 made e s).1 ∙ waits_ in
+        let told_ : not_due x ≡ not_due d = (given.answers made e s).1 ∙ waits_ in
         let when : x ≡ d = cc in next.0 ∙ ap (λ (y : ℕ). Ok (turn.NotDue y)) when
-    waited now d m n q k l (Ok asks.Busy) r s waits_ given next = let told_ = (given.0 made e s).1 in absurd (cc)
-    waited now d m n q k l (Ok (asks.Job j)) r s waits_ given next = let told_ = (given.0 made e s).1 in absurd (cc)
+    waited now d m n q k l (Ok asks.Busy) r s waits_ given next = let told_ = (given.answers made e s).1 in absurd (cc)
+    waited now d m n q k l (Ok (asks.Job j)) r s waits_ given next = let told_ = (given.answers made e s).1 in absurd (cc)
 
     asks_then : (m q : P) (k l : K) (r : Result Turn Refusal) → Stands made e (core_of m) → (gate_of m).out ≡ false
         → Asks refuses reads ends taken reported asked published failed slot m k r q l → EndsDue reads k made e slot r (core_of q)
@@ -187,14 +189,14 @@ module _ {S C W K P : Type 0} (refuses : List Member → C → Option Refusal) (
         → (gate_of p).out ≡ false → IsTaken (core_of p) slot a (core_of m) × (gate_of m ≡ gate_of p)
         → Clears refuses reads ends taken reported asked published failed slot a m k r q l → EndsDue reads k made e slot r (core_of q)
     bare_ends p m q k l (Ok v) r s free given next =
-        let none : taken_refusal made slot Events ≡ None = (given.0.0 made e s).0 in
+        let none : taken_refusal made slot Events ≡ None = (given.0.answers made e s).0 in
         let some = taken-none made slot Events due.there bare in absurd (cc)
     bare_ends p m q k l (Err x) r s free given next =
         let cause : x ≡ refusal.NothingRetired =
-        cause-is x refusal.NothingRetired (sym (given.0.0 made e s) ∙ taken-none made slot Events due.there bare) in
+        cause-is x refusal.NothingRetired (sym (given.0.answers made e s) ∙ taken-none made slot Events due.there bare) in
         let asks_ : Clears refuses reads ends taken reported asked published failed slot (Err refusal.NothingRetired) m k r q l =
         subst (λ (y : Refusal). Clears refuses reads ends taken reported asked published failed slot (Err y) m k r q l) cause next in
-        asks_then m q k l r (given.0.1 made e s) (ap (λ (g : GateValue). g.out) given.1 ∙ free) asks_
+        asks_then m q k l r (given.0.stands made e s) (ap (λ (g : GateValue). g.out) given.1 ∙ free) asks_
 
   module _ (made : Made C) (e : History) (due : IsDue made e slot) (n : ℕ) (own : extra (past_of slot (slot_events e)) ≡ core.retired n)
       (unread : readers n (past_of slot (slot_events e)) ≡ 0) where
@@ -220,10 +222,10 @@ module _ {S C W K P : Type 0} (refuses : List Member → C → Option Refusal) (
         → Clears refuses reads ends taken reported asked published failed slot a m k r q l → EndsDue reads k made e slot r (core_of q)
     own_ends p m q k l (Ok v) r s given (t, told_, next) =
         let is = reported_is m slot (owed_of v) t told_ in
-        let stands : Stands made Cleared (core_of t) = is.0 made (At slot core.TakenOut ∷ e) (given.0.1 made e s) in
+        let stands : Stands made Cleared (core_of t) = is.0 made (At slot core.TakenOut ∷ e) (given.0.stands made e s) in
         rw past-cleared at (asks_then made Cleared due-cleared bare-cleared t q k l r stands is.1 next)
     own_ends p m q k l (Err x) r s given next =
-        let some : taken_refusal made slot (slot_events e) ≡ Some x = given.0.0 made e s in
+        let some : taken_refusal made slot (slot_events e) ≡ Some x = given.0.answers made e s in
         let none = taken-some made slot n (slot_events e) due.there own unread in absurd (cc)
 
   turn_ends : (made : Made C) (e : History) (p q : P) (k l : K) (r : Result Turn Refusal) → Stands made e (core_of p) → IsDue made e slot

@@ -1,12 +1,12 @@
 //! Implements `GroupPort` over a plain group: its calls are the group's own, on the registry and the gate that it borrows. And a worker's
 //! turn over it, at a slot that is due.
-ghost use Rattle.std.specs.Prelude.{◌≡◌, ◌<◌, true, length};
+ghost use Rattle.std.specs.Prelude.{◌≡◌, ◌<◌, true, length, Ok};
 ghost use Rattle.lb_select_base.specs.Loads.{load_in};
-ghost use Rattle.lb_balancer_core.specs.Plain.{OwnsJob, OwnsReader, OwnsPermit, IsAsked, IsEntered, IsReadyFor, IsDrawn};
+ghost use Rattle.lb_balancer_core.specs.Plain.{OwnsJob, OwnsReader, OwnsPermit, IsDrawn};
 ghost use Rattle.lb_balancer_core.specs.Lent.{SameLent};
-ghost use Rattle.lb_balancer_core.specs.Plain.{IsTaken, IsReported, IsFailed, IsPublished, IsLeft};
 ghost use Rattle.std.proofs.Common.{subst, sym};
-ghost use Rattle.lb_rebuild_core.specs.GroupCalls.{IsScheduled};
+ghost use Rattle.lb_rebuild_core.specs.GroupCalls.{IsScheduled, IsAsked, IsFailed, IsPublished, IsEntered, IsReadyFor, IsLeft};
+ghost use Rattle.lb_rebuild_core.specs.GroupCalls.{IsTaken, IsReported};
 ghost use Rattle.lb_rebuild_core.specs.GroupHistory.{slot_events};
 ghost use Rattle.lb_rebuild_core.specs.GroupStates.{After};
 ghost use Rattle.lb_rebuild_core.specs.SlotsHistory.{extra, is_extra, past_of};
@@ -81,14 +81,15 @@ impl<'c, 'x, 'g, 'w, 'l, S: BackendSelection, R: KeyRule + Drop, G: Rng> TakesBa
 
     ghost owns_reader = { λ p r. OwnsReader p.core.now r };
 
-    ghost failed = { λ p r now q. IsFailed R.gives p.core.now p.registry.now p.gate.now r.task now q.core.now q.registry.now q.gate.now
+    ghost failed = { λ p r now q. IsFailed R.gives p.core.now p.registry.now p.gate.now r.task now (Ok tt) q.core.now q.registry.now
+        q.gate.now
         × (q.generator.now ≡ p.generator.now) × SameLent p q };
 
-    ghost published = { λ p b t q. IsPublished p.core.now b t q.core.now
+    ghost published = { λ p b t q. IsPublished p.core.now b (Ok t) q.core.now
         × (q.registry.now ≡ p.registry.now) × (q.gate.now ≡ p.gate.now)
         × (q.generator.now ≡ p.generator.now) × SameLent p q };
 
-    ghost left = { λ p r q. IsLeft p.core.now r q.core.now
+    ghost left = { λ p r q. IsLeft p.core.now r (Ok tt) q.core.now
         × (q.registry.now ≡ p.registry.now) × (q.gate.now ≡ p.gate.now)
         × (q.generator.now ≡ p.generator.now) × SameLent p q };
 
@@ -144,7 +145,8 @@ impl<'c, 'x, 'g, 'w, 'l, S: BackendSelection, R: KeyRule + Drop, G: Rng> GroupPo
         × (q.registry.now ≡ p.registry.now) × (q.gate.now ≡ p.gate.now)
         × (q.generator.now ≡ p.generator.now) × SameLent p q };
 
-    ghost reported = { λ p slot permit q. IsReported R.gives p.core.now p.registry.now p.gate.now slot q.core.now q.registry.now q.gate.now
+    ghost reported = { λ p slot permit q. IsReported R.gives p.core.now p.registry.now p.gate.now slot permit (Ok tt) q.core.now
+        q.registry.now q.gate.now
         × (q.generator.now ≡ p.generator.now) × SameLent p q };
 
     ghost owns_permit = { λ p slot permit. OwnsPermit p.core.now slot permit };

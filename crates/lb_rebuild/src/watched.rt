@@ -1,21 +1,14 @@
 //! A group with the pass that writes its board, as one value under the group's lock. A membership that is another one and a publication
 //! raise one word each, inside the call that makes them; no other call does.
-ghost use Rattle.std.specs.Prelude.{◌≡◌, ◌+◌, ◌∷◌, ◌++◌, [], List, None, Ok, Err};
+ghost use Rattle.std.specs.Prelude.{◌≡◌, ◌+◌, ◌∷◌, [], None, Ok, Err};
 ghost use Rattle.std.specs.Prelude.{IfOk, IfErr, slice_get, length, replicate};
 ghost use Rattle.std.specs.Arc.{arc_value};
-ghost use Rattle.lb_select_base.specs.Backends.{Member};
-ghost use Rattle.lb_rebuild_core.specs.SlotsHistory.{Cancelled, WorkerLost, Entered, Left, TakenOut, Destroyed};
 ghost use Rattle.lb_rebuild_core.specs.Values.{configs_of};
-ghost use Rattle.lb_rebuild_core.specs.SlotsCalls.{IsOwnJob, Asks, ask_events, gate_after, Fails, fail_events, gate_back, Publishes};
-ghost use Rattle.lb_rebuild_core.specs.SlotsCalls.{publish_events, Abandons, abandon_events, Unless, lose_refusal, done_at, Enters};
-ghost use Rattle.lb_rebuild_core.specs.SlotsCalls.{Leaves};
-ghost use Rattle.lb_rebuild_core.specs.SlotsCalls.{Takes, Reports, IsTicket, ticket_events};
 ghost use Rattle.lb_health_view.specs.RegistrySide.{settings_of};
-ghost use Rattle.lb_health_core.specs.Registry.{IsRegistryAfter};
-ghost use Rattle.lb_health_core.specs.RegistryEvents.{Event, Marked};
-ghost use Rattle.lb_rebuild_core.specs.GroupCalls.{IsScheduled, released_where, generation_at};
-ghost use Rattle.lb_rebuild_core.specs.GroupHistory.{Set, slot_events, in_group};
-ghost use Rattle.lb_rebuild_core.specs.GroupStates.{Stands, After, Becomes, IsFounded, SameSite, views_of};
+ghost use Rattle.lb_rebuild_core.specs.GroupCalls.{IsScheduled, IsCancelled, IsAsked, IsFailed, IsPublished, IsAbandoned};
+ghost use Rattle.lb_rebuild_core.specs.GroupCalls.{IsWorkerLost, IsEntered, IsTicketDrawn, IsLeft, IsTaken, IsReported};
+ghost use Rattle.lb_rebuild_core.specs.GroupHistory.{Set};
+ghost use Rattle.lb_rebuild_core.specs.GroupStates.{Becomes, IsFounded, SameSite};
 ghost use Rattle.lb_rebuild.specs.Watched.{words_of, schedule_steps, publish_steps};
 
 use crate::board::{Board, WritingPass};
@@ -169,13 +162,9 @@ impl<S: BackendSelection> Watched<S> {
     /// Selections and readers go on, and what is under way can still come back. It takes no memory.
     pub fn cancel<R: KeyRule + Drop>(&mut self, registry: &mut Registry<R>)
         requires registry { registry.old.id ≡ self.old.core.registry }
-        ensures stands { Becomes self.old.core (in_group (Cancelled ∷ [])) self.new.core }
-        ensures site { SameSite self.old.core self.new.core }
-        ensures registry { (key_of : Member → Member) (events : List Event) → IsRegistryAfter R.gives key_of events registry.old
-            → IsRegistryAfter R.gives key_of (Marked self.old.core.view.id ∷ events) registry.new }
+        ensures cancelled { IsCancelled R.gives self.old.core registry.old self.new.core registry.new }
         ensures board { self.new.board ≡ self.old.board }
         ensures steps { self.new.steps ≡ self.old.steps }
-        ensures one_registry { registry.new.id ≡ registry.old.id }
     {
         self.core.past();
         self.core.cancel(registry);
@@ -190,12 +179,7 @@ impl<S: BackendSelection> Watched<S> {
     /// `NoSuch` where no such slot is there.
     pub fn ask(&mut self, slot: usize, gate: &mut GateCore, now: u128) -> Result<Ask<S>, Refusal>
         requires { gate.old.id ≡ self.old.core.group.gate }
-        ensures answers { After self.old.core (λ made e. Asks made (slot_events e) slot gate.old.out now result) }
-        ensures stands { Becomes self.old.core (in_group (ask_events slot now result)) self.new.core }
-        ensures site { SameSite self.old.core self.new.core }
-        ensures own { IfOk result (λ a. IsOwnJob self.new.core.group a) }
-        ensures gate { gate.new ≡ gate_after result gate.old }
-        ensures one_gate { gate.new.id ≡ gate.old.id }
+        ensures asked { IsAsked self.old.core gate.old slot now result self.new.core gate.new }
         ensures board { self.new.board ≡ self.old.board }
         ensures steps { self.new.steps ≡ self.old.steps }
     {
@@ -222,17 +206,9 @@ impl<S: BackendSelection> Watched<S> {
         requires config { slice_get (configs_of self.old.core.group) job.slot ≡ Some job.config }
         requires gate { gate.old.id ≡ self.old.core.group.gate }
         requires registry { registry.old.id ≡ self.old.core.registry }
-        ensures answers { After self.old.core (λ made e. Fails (slot_events e) job result) }
-        ensures stands { Becomes self.old.core (in_group (fail_events job now result)) self.new.core }
-        ensures site { SameSite self.old.core self.new.core }
-        ensures registry { (key_of : Member → Member) (events : List Event) → IsRegistryAfter R.gives key_of events registry.old
-            → After self.old.core (λ made e. IsRegistryAfter R.gives key_of
-            (released_where result self.old.core.view.id job.generation (views_of made e) events) registry.new) }
-        ensures gate { gate.new ≡ gate_back result gate.old }
-        ensures one_gate { gate.new.id ≡ gate.old.id }
+        ensures failed { IsFailed R.gives self.old.core registry.old gate.old job now result self.new.core registry.new gate.new }
         ensures board { self.new.board ≡ self.old.board }
         ensures steps { self.new.steps ≡ self.old.steps }
-        ensures one_registry { registry.new.id ≡ registry.old.id }
     {
         self.core.past();
         self.core.fail(job, registry, gate, now)
@@ -249,9 +225,7 @@ impl<S: BackendSelection> Watched<S> {
         requires own { built.task.group ≡ self.old.core.group.id }
         requires permit { built.task.permit ≡ self.old.core.group.gate }
         requires config { slice_get (configs_of self.old.core.group) built.task.slot ≡ Some built.task.config }
-        ensures answers { After self.old.core (λ made e. Publishes (slot_events e) built result) }
-        ensures stands { Becomes self.old.core (in_group (publish_events built result)) self.new.core }
-        ensures site { SameSite self.old.core self.new.core }
+        ensures published { IsPublished self.old.core built result self.new.core }
         ensures board { self.new.board ≡ self.old.board }
         ensures steps { self.new.steps ≡ self.old.steps + publish_steps result }
     {
@@ -280,9 +254,7 @@ impl<S: BackendSelection> Watched<S> {
         requires own { built.task.group ≡ self.old.core.group.id }
         requires permit { built.task.permit ≡ self.old.core.group.gate }
         requires config { slice_get (configs_of self.old.core.group) built.task.slot ≡ Some built.task.config }
-        ensures answers { After self.old.core (λ made e. Abandons (slot_events e) built result) }
-        ensures stands { Becomes self.old.core (in_group (abandon_events built result)) self.new.core }
-        ensures site { SameSite self.old.core self.new.core }
+        ensures abandoned { IsAbandoned self.old.core built result self.new.core }
         ensures board { self.new.board ≡ self.old.board }
         ensures steps { self.new.steps ≡ self.old.steps }
     {
@@ -298,9 +270,7 @@ impl<S: BackendSelection> Watched<S> {
     ///
     /// `NoSuch` where no such slot is there, and `NothingInFlight` where it has no flight.
     pub fn worker_lost(&mut self, slot: usize) -> Result<(), Refusal>
-        ensures answers { After self.old.core (λ made e. Unless (lose_refusal made slot (slot_events e)) result) }
-        ensures stands { Becomes self.old.core (in_group (done_at slot WorkerLost result)) self.new.core }
-        ensures site { SameSite self.old.core self.new.core }
+        ensures lost { IsWorkerLost self.old.core slot result self.new.core }
         ensures board { self.new.board ≡ self.old.board }
         ensures steps { self.new.steps ≡ self.old.steps }
     {
@@ -315,10 +285,7 @@ impl<S: BackendSelection> Watched<S> {
     /// `NoSuch` where no such slot is there; `NumbersExhausted` where its readers are at 18446744073709551615; `OutOfMemory`
     /// where neither holds and memory is refused. Nothing changes then.
     pub fn enter(&mut self, slot: usize) -> Result<Reader<S>, Refusal>
-        ensures answers { After self.old.core (λ made e. Enters made (slot_events e) slot result) }
-        ensures stands { Becomes self.old.core (in_group (done_at slot Entered result)) self.new.core }
-        ensures site { SameSite self.old.core self.new.core }
-        ensures own { IfOk result (λ r. r.group ≡ self.new.core.group.id) }
+        ensures entered { IsEntered self.old.core slot result self.new.core }
         ensures board { self.new.board ≡ self.old.board }
         ensures steps { self.new.steps ≡ self.old.steps }
     {
@@ -329,10 +296,7 @@ impl<S: BackendSelection> Watched<S> {
     /// Returns the next ticket of the selector that a reader is in, as a group without a view does: each selector has a counter of its
     /// own, which its readers go on in while it is retired. It takes no memory.
     pub fn ticket(&mut self, reader: &Reader<S>) -> u64
-        ensures answers { After self.old.core (λ made e. IsTicket made (slot_events e) reader.now.slot reader.now.generation result) }
-        ensures stands { After self.old.core (λ made e. Stands made
-            (in_group (ticket_events made reader.now.slot reader.now.generation result (slot_events e)) ++ e) self.new.core) }
-        ensures site { SameSite self.old.core self.new.core }
+        ensures drawn { IsTicketDrawn self.old.core reader.now result self.new.core }
         ensures board { self.new.board ≡ self.old.board }
         ensures steps { self.new.steps ≡ self.old.steps }
     {
@@ -349,9 +313,7 @@ impl<S: BackendSelection> Watched<S> {
     /// The reader, where its slot counts no reader of its generation. Nothing changes then.
     pub fn leave(&mut self, reader: Reader<S>) -> Result<(), Reader<S>>
         requires { reader.group ≡ self.old.core.group.id }
-        ensures answers { After self.old.core (λ made e. Leaves made (slot_events e) reader result) }
-        ensures stands { Becomes self.old.core (in_group (done_at reader.slot (Left reader.generation) result)) self.new.core }
-        ensures site { SameSite self.old.core self.new.core }
+        ensures left { IsLeft self.old.core reader result self.new.core }
         ensures board { self.new.board ≡ self.old.board }
         ensures steps { self.new.steps ≡ self.old.steps }
     {
@@ -368,11 +330,7 @@ impl<S: BackendSelection> Watched<S> {
     /// `NoSuch` where no such slot is there; `StillRead` with the number of readers that are left in it; `NothingRetired`
     /// where no retired selector is there. Nothing changes then.
     pub fn take_retired(&mut self, slot: usize) -> Result<Retired<S>, Refusal>
-        ensures answers { After self.old.core (λ made e. Takes made (slot_events e) slot result) }
-        ensures stands { Becomes self.old.core (in_group (done_at slot TakenOut result)) self.new.core }
-        ensures site { SameSite self.old.core self.new.core }
-        ensures own { IfOk result (λ r. (r.group ≡ self.new.core.group.id) × (r.slot ≡ slot)
-            × (r.permit ≡ self.new.core.group.gate)) }
+        ensures taken { IsTaken self.old.core slot result self.new.core }
         ensures board { self.new.board ≡ self.old.board }
         ensures steps { self.new.steps ≡ self.old.steps }
     {
@@ -398,17 +356,10 @@ impl<S: BackendSelection> Watched<S> {
         requires permit { permit.gate ≡ self.old.core.group.gate }
         requires gate { gate.old.id ≡ self.old.core.group.gate }
         requires registry { registry.old.id ≡ self.old.core.registry }
-        ensures answers { After self.old.core (λ made e. Reports made (slot_events e) slot permit result) }
-        ensures stands { Becomes self.old.core (in_group (done_at slot Destroyed result)) self.new.core }
-        ensures site { SameSite self.old.core self.new.core }
-        ensures registry { (key_of : Member → Member) (events : List Event) → IsRegistryAfter R.gives key_of events registry.old
-            → After self.old.core (λ made e. IsRegistryAfter R.gives key_of
-            (released_where result self.old.core.view.id (generation_at slot e) (views_of made e) events) registry.new) }
-        ensures gate { gate.new ≡ gate_back result gate.old }
-        ensures one_gate { gate.new.id ≡ gate.old.id }
+        ensures reported { IsReported R.gives self.old.core registry.old gate.old slot permit result self.new.core registry.new
+            gate.new }
         ensures board { self.new.board ≡ self.old.board }
         ensures steps { self.new.steps ≡ self.old.steps }
-        ensures one_registry { registry.new.id ≡ registry.old.id }
     {
         self.core.past();
         self.core.destroyed(slot, permit, registry, gate)

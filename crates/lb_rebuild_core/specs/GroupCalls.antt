@@ -1,5 +1,5 @@
--- What the calls of a joined group answer, apart from what the group's own calls do, and what they do to the registry.
-use Rattle.std.specs.Prelude.{◌≡◌, ◌⊎◌, ◌↔◌, ◌^◌, ◌≤◌, ℕ, Bool, true, false, IsTrue, List, ◌∷◌, ◌++◌, Option, Some, None, if◌then◌else◌}
+-- What the calls of a joined group promise: one record for each call, which the layers above cite.
+use Rattle.std.specs.Prelude.{◌≡◌, ◌⊎◌, ◌↔◌, ◌^◌, ◌≤◌, ℕ, Bool, true, false, IsTrue, List, [], ◌∷◌, ◌++◌, Option, Some, None, if◌then◌else◌}
 use Rattle.std.specs.Prelude.{Result, Ok, Err, IfOk, IsErrOf, OnErr, OnOk}
 use Rattle.std.specs.Borrow.{Bor}
 use Rattle.std.specs.Fn.{Shared, FnReturns}
@@ -7,10 +7,14 @@ use Rattle.lb_select_base.specs.Backends.{Member}
 use Rattle.lb_select_base.specs.Refusals.{memory_apart}
 use Rattle.lb_select_base.specs.declared.refusal.Refusal.{Refusal}
 use Rattle.lb_select_base.specs.declared.refusal.Refusal.TheVariants.{OutOfMemory, NumbersExhausted, NoSuch}
+use Rattle.lb_rebuild_core.specs.Gate.{GateValue}
 use Rattle.lb_rebuild_core.specs.SlotsCalls as slots
 use Rattle.lb_rebuild_core.specs.SlotsHistory as core
 use Rattle.lb_rebuild_core.specs.SlotsHistory.{past_of, served, extra, generation_of}
 use Rattle.lb_rebuild_core.specs.Stands.{Made, StandsFor}
+use Rattle.lb_rebuild_core.specs.Values.{Task, BuiltValue, RetiredValue, PermitValue, ReaderValue}
+use Rattle.lb_rebuild_core.specs.declared.answers.Ask.{Ask}
+use Rattle.lb_rebuild_core.specs.declared.answers.Publication.{Publication}
 use Rattle.lb_rebuild_core.specs.declared.answers.Selection.{Selection}
 use Rattle.lb_rebuild_core.specs.declared.membership.Scheduled.{Scheduled}
 use Rattle.lb_health_view.specs.RegistrySide.{registry_released, registry_updated, IsReady}
@@ -19,9 +23,9 @@ use Rattle.lb_health_view.specs.ViewEvents.{ViewEvent}
 use Rattle.lb_health_view.specs.Views.{IsViewAfter}
 use Rattle.lb_health_core.specs.Registry.{RegistryValue, IsRegistryAfter}
 use Rattle.lb_health_core.specs.RegistryEvents as registry
-use Rattle.lb_health_core.specs.RegistryEvents.{Event, Applied, Updated, cells_given, has_view, views_after}
+use Rattle.lb_health_core.specs.RegistryEvents.{Event, Applied, Updated, Marked, cells_given, has_view, views_after}
 use Rattle.lb_rebuild_core.specs.GroupHistory.{History, Shown, slot_events, in_group, after_settings}
-use Rattle.lb_rebuild_core.specs.GroupStates.{GroupValue, Stands, After, SameSite, views_of}
+use Rattle.lb_rebuild_core.specs.GroupStates.{GroupValue, Stands, After, Becomes, SameSite, views_of}
 
 -- a membership that another call below may refuse for memory, because no number is left for a cell, or because no such view is
 -- registered
@@ -103,6 +107,160 @@ released_where (Err b) id g views events = events
 -- the generation of a slot's extra
 abbrev pub generation_at : ℕ → History → ℕ
 generation_at slot e = generation_of (extra (past_of slot (slot_events e)))
+
+-- the snapshot of that generation is released where the call isn't refused
+abbrev pub IsReleasedWhere : {A B C R : Type 0} → (R → Member → Member → Type 0) → Result A B → GroupValue C → (Made C → History → ℕ)
+    → RegistryValue R → RegistryValue R → Type 0
+IsReleasedWhere gives r v generation x y =
+    (key_of : Member → Member) (events : List Event) → IsRegistryAfter gives key_of events x
+    → After v (λ made e. IsRegistryAfter gives key_of (released_where r v.view.id (generation made e) (views_of made e) events) y)
+
+-- A slot was asked for its next build at a moment, and answered r: what the group was before (v) and is after (w), and what its gate was
+-- before (g) and is after (k).
+pub record IsAsked {S C W : Type 0} (v : GroupValue C) (g : GateValue) (slot now : ℕ) (r : Result (Ask S C W) Refusal)
+    (w : GroupValue C) (k : GateValue) : Type 0 where
+  -- the answer is right
+  pub answers : After v (λ made e. slots.Asks made (slot_events e) slot g.out now r)
+  -- a job is granted where one is answered, and nothing happens where not
+  pub stands : Becomes v (in_group (slots.ask_events slot now r)) w
+  -- gate, configurations and view stay
+  pub site : SameSite v w
+  -- a job is the group's own
+  pub own : IfOk r (λ a. slots.IsOwnJob w.group a)
+  -- a job has the gate's permit
+  pub gate : k ≡ slots.gate_after r g
+  -- it is the same gate
+  pub one_gate : k.id ≡ g.id
+
+-- A job came back as failed at a moment, and the call answered r: what group (v), registry (x) and gate (g) were before, and are after
+-- (w, y, k).
+pub record IsFailed {C R : Type 0} (gives : R → Member → Member → Type 0) (v : GroupValue C) (x : RegistryValue R) (g : GateValue)
+    (j : Task C) (now : ℕ) (r : Result (Unit {0}) (Task C)) (w : GroupValue C) (y : RegistryValue R) (k : GateValue) : Type 0 where
+  -- it is taken where its slot awaits it
+  pub answers : After v (λ made e. slots.Fails (slot_events e) j r)
+  -- one that is taken ends its flight
+  pub stands : Becomes v (in_group (slots.fail_events j now r)) w
+  -- gate, configurations and view stay
+  pub site : SameSite v w
+  -- the snapshot of one that is taken is released
+  pub registry : IsReleasedWhere gives r v (λ made e. j.generation) x y
+  -- its permit goes back
+  pub gate : k ≡ slots.gate_back r g
+  -- it is the same gate
+  pub one_gate : k.id ≡ g.id
+  -- it is the same registry
+  pub one_registry : y.id ≡ x.id
+
+-- A selector was published, and the call answered r: what the group was before (v) and is after (w).
+pub record IsPublished {C : Type 0} (v : GroupValue C) (b : BuiltValue C) (r : Result Publication (BuiltValue C)) (w : GroupValue C)
+    : Type 0 where
+  -- it is taken where its slot awaits it, and served where the slot has its flight and the group isn't cancelled
+  pub answers : After v (λ made e. slots.Publishes (slot_events e) b r)
+  -- one that is taken is served, or retired unserved
+  pub stands : Becomes v (in_group (slots.publish_events b r)) w
+  -- gate, configurations and view stay
+  pub site : SameSite v w
+
+-- A selector came back unserved, and the call answered r: what the group was before (v) and is after (w).
+pub record IsAbandoned {C : Type 0} (v : GroupValue C) (b : BuiltValue C) (r : Result (Unit {0}) (BuiltValue C)) (w : GroupValue C)
+    : Type 0 where
+  -- it is taken where its slot awaits it
+  pub answers : After v (λ made e. slots.Abandons (slot_events e) b r)
+  -- one that is taken is retired unserved
+  pub stands : Becomes v (in_group (slots.abandon_events b r)) w
+  -- gate, configurations and view stay
+  pub site : SameSite v w
+
+-- A slot's flight was called lost, and the call answered r: what the group was before (v) and is after (w).
+pub record IsWorkerLost {C : Type 0} (v : GroupValue C) (slot : ℕ) (r : Result (Unit {0}) Refusal) (w : GroupValue C) : Type 0 where
+  -- it is refused exactly for its cause
+  pub answers : After v (λ made e. slots.Unless (slots.lose_refusal made slot (slot_events e)) r)
+  -- where it isn't refused, the flight is lost
+  pub stands : Becomes v (in_group (slots.done_at slot core.WorkerLost r)) w
+  -- gate, configurations and view stay
+  pub site : SameSite v w
+
+-- What a slot serves was entered, and the call answered r: what the group was before (v) and is after (w).
+pub record IsEntered {C : Type 0} (v : GroupValue C) (slot : ℕ) (r : Result (ReaderValue C) Refusal) (w : GroupValue C) : Type 0 where
+  -- the answer is right
+  pub answers : After v (λ made e. slots.Enters made (slot_events e) slot r)
+  -- where it isn't refused, one reader more is in it
+  pub stands : Becomes v (in_group (slots.done_at slot core.Entered r)) w
+  -- gate, configurations and view stay
+  pub site : SameSite v w
+  -- the reader is of this group
+  pub own : IfOk r (λ reader. reader.group ≡ w.group.id)
+
+-- A ticket was drawn for a reader: what the group was before (v) and is after (w).
+pub record IsTicketDrawn {C : Type 0} (v : GroupValue C) (reader : ReaderValue C) (ticket : ℕ) (w : GroupValue C) : Type 0 where
+  -- it is the next of the counter of the selector that the reader is in
+  pub answers : After v (λ made e. slots.IsTicket made (slot_events e) reader.slot reader.generation ticket)
+  -- that counter moves on
+  pub stands : After v (λ made e. Stands made
+      (in_group (slots.ticket_events made reader.slot reader.generation ticket (slot_events e)) ++ e) w)
+  -- gate, configurations and view stay
+  pub site : SameSite v w
+
+-- A reader came back, and the call answered r: what the group was before (v) and is after (w).
+pub record IsLeft {C : Type 0} (v : GroupValue C) (reader : ReaderValue C) (r : Result (Unit {0}) (ReaderValue C)) (w : GroupValue C)
+    : Type 0 where
+  -- it is taken where its slot counts one of its generation
+  pub answers : After v (λ made e. slots.Leaves made (slot_events e) reader r)
+  -- the entry of one that is taken is over
+  pub stands : Becomes v (in_group (slots.done_at reader.slot (core.Left reader.generation) r)) w
+  -- gate, configurations and view stay
+  pub site : SameSite v w
+
+-- A slot was asked for its retired selector, and answered r: what the group was before (v) and is after (w).
+pub record IsTaken {C : Type 0} (v : GroupValue C) (slot : ℕ) (r : Result RetiredValue Refusal) (w : GroupValue C) : Type 0 where
+  -- the answer is right
+  pub answers : After v (λ made e. slots.Takes made (slot_events e) slot r)
+  -- where it isn't refused, the selector is out of the slot
+  pub stands : Becomes v (in_group (slots.done_at slot core.TakenOut r)) w
+  -- gate, configurations and view stay
+  pub site : SameSite v w
+  -- what is taken out is of this slot, with the permit of the group's gate
+  pub own : IfOk r (λ taken. (taken.group ≡ w.group.id) × (taken.slot ≡ slot) × (taken.permit ≡ w.group.gate))
+
+-- A selector that was taken out of a slot was reported destroyed, and the call answered r: what group (v), registry (x) and gate (g) were
+-- before, and are after (w, y, k).
+pub record IsReported {C R : Type 0} (gives : R → Member → Member → Type 0) (v : GroupValue C) (x : RegistryValue R) (g : GateValue)
+    (slot : ℕ) (permit : PermitValue) (r : Result (Unit {0}) PermitValue) (w : GroupValue C) (y : RegistryValue R) (k : GateValue)
+    : Type 0 where
+  -- the report is taken where a selector of the slot is out
+  pub answers : After v (λ made e. slots.Reports made (slot_events e) slot permit r)
+  -- where it is taken, the slot has no extra any more
+  pub stands : Becomes v (in_group (slots.done_at slot core.Destroyed r)) w
+  -- gate, configurations and view stay
+  pub site : SameSite v w
+  -- where it is taken, the snapshot of what was destroyed is released
+  pub registry : IsReleasedWhere gives r v (λ made e. generation_at slot e) x y
+  -- its permit goes back
+  pub gate : k ≡ slots.gate_back r g
+  -- it is the same gate
+  pub one_gate : k.id ≡ g.id
+  -- it is the same registry
+  pub one_registry : y.id ≡ x.id
+
+-- A group was cancelled: what it (v) and its registry (x) were before, and are after (w, y).
+pub record IsCancelled {C R : Type 0} (gives : R → Member → Member → Type 0) (v : GroupValue C) (x : RegistryValue R) (w : GroupValue C)
+    (y : RegistryValue R) : Type 0 where
+  -- the rebuilds are stopped
+  pub stands : Becomes v (in_group (core.Cancelled ∷ [])) w
+  -- gate, configurations and view stay
+  pub site : SameSite v w
+  -- the view is marked for removal
+  pub registry : (key_of : Member → Member) (events : List Event) → IsRegistryAfter gives key_of events x
+      → IsRegistryAfter gives key_of (Marked v.view.id ∷ events) y
+  -- it is the same registry
+  pub one_registry : y.id ≡ x.id
+
+-- whether a backend is ready in the snapshot of the reader's generation, by the flags and the cells as they are
+abbrev pub IsReadyFor : {C R : Type 0} → (R → Member → Member → Type 0) → GroupValue C → RegistryValue R → ReaderValue C → Member → Bool
+    → Type 0
+IsReadyFor gives v x reader b ready =
+    (key_of : Member → Member) (events : List Event) → IsRegistryAfter gives key_of events x
+    → After v (λ made e. IsTrue ready ↔ IsReady key_of (views_of made e) events reader.generation b)
 
 -- the generation that a slot serves
 abbrev pub served_at : ℕ → History → ℕ

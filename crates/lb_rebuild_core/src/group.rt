@@ -1,33 +1,29 @@
 //! A group joined with its view: a membership reaches both or neither, and each slot holds the snapshots that it has in use.
 //! A call tests all that it can refuse for before it changes anything; builds run elsewhere, between `ask` and `publish`.
-ghost use Rattle.std.specs.Prelude.{◌≡◌, ◌≢◌, ◌↔◌, ◌<◌, ◌≤◌, ◌+◌, ◌^◌, ◌∷◌, ◌++◌, [], ℕ, List, true, false, map, replicate, None, Ok, Err};
+ghost use Rattle.std.specs.Prelude.{◌≡◌, ◌≢◌, ◌↔◌, ◌<◌, ◌≤◌, ◌+◌, ◌^◌, ◌∷◌, [], List, true, false, map, replicate, None, Ok, Err};
 ghost use Rattle.std.specs.Prelude.{length, IfOk, IfErr, IsTrue, OnOk, OnErr, IsErrOf, slice_get};
 ghost use Rattle.std.specs.Arc.{arc_value};
 ghost use Rattle.lb_select_base.specs.Backends.{Member};
 ghost use Rattle.lb_select_base.specs.Loads.{load_in};
 ghost use Rattle.lb_select_base.specs.Refusals.{least, memory_apart};
-ghost use Rattle.lb_rebuild_core.specs.SlotsHistory.{Cancelled, WorkerLost, Entered, Left, TakenOut, Destroyed, past_of};
-ghost use Rattle.lb_rebuild_core.specs.SlotsHistory.{newest as newest_after};
+ghost use Rattle.lb_rebuild_core.specs.SlotsHistory.{past_of, newest as newest_after};
 ghost use Rattle.lb_rebuild_core.specs.SlotsHistory.{served as served_after, is_cancelled, timing as timing_after};
 ghost use Rattle.lb_rebuild_core.specs.SlotsHistory.{waits as waits_after, readers as readers_after};
 ghost use Rattle.lb_rebuild_core.specs.SlotsHistory.{extra, flight_after, is_extra};
 ghost use Rattle.lb_rebuild_core.specs.Values.{configs_of};
 ghost use Rattle.lb_rebuild_core.specs.Stands.{Made, After as AfterGroup, counts_after};
-ghost use Rattle.lb_rebuild_core.specs.SlotsCalls.{IsOwnJob, Asks, ask_events, gate_after, Fails, fail_events, gate_back, Publishes};
-ghost use Rattle.lb_rebuild_core.specs.SlotsCalls.{publish_events, Abandons, abandon_events, Unless, lose_refusal, done_at, Enters};
-ghost use Rattle.lb_rebuild_core.specs.SlotsCalls.{Leaves};
-ghost use Rattle.lb_rebuild_core.specs.SlotsCalls.{schedule_refusal, Prepares, FitsIfThere};
-ghost use Rattle.lb_rebuild_core.specs.SlotsCalls.{Takes, Reports, at_slot, SelectsIn, select_events, IsTicket, ticket_events};
+ghost use Rattle.lb_rebuild_core.specs.SlotsCalls.{schedule_refusal, Prepares, FitsIfThere, at_slot, SelectsIn};
 ghost use Rattle.lb_health_view.specs.RegistrySide.{IsReady, settings_of};
 ghost use Rattle.lb_health_view.specs.ViewEvents.{Held};
 ghost use Rattle.lb_health_view.specs.Views.{IsViewAfter};
 ghost use Rattle.lb_health_core.specs.Registry.{IsRegistryAfter};
-ghost use Rattle.lb_health_core.specs.RegistryEvents.{Event, Registered, Applied, Updated, Marked, registered_after, views_after};
+ghost use Rattle.lb_health_core.specs.RegistryEvents.{Event, Registered, Applied, Updated, registered_after, views_after};
 ghost use Rattle.lb_health_core.specs.RegistryEvents.{has_view, cells_given};
 ghost use Rattle.lb_rebuild_core.specs.GroupCalls.{IsSharedRefusal, IsRefusedFor, served_at, Judges, IsJudged, AcceptsBy};
-ghost use Rattle.lb_rebuild_core.specs.GroupCalls.{IsMakingRefusal, IsScheduled, released_where, generation_at};
+ghost use Rattle.lb_rebuild_core.specs.GroupCalls.{IsMakingRefusal, IsScheduled, IsCancelled, IsAsked, IsFailed, IsPublished, IsAbandoned};
+ghost use Rattle.lb_rebuild_core.specs.GroupCalls.{IsWorkerLost, IsEntered, IsReadyFor, IsTicketDrawn, IsLeft, IsTaken, IsReported};
 ghost use Rattle.lb_rebuild_core.specs.GroupCalls.{after_select};
-ghost use Rattle.lb_rebuild_core.specs.GroupHistory.{History, Set, slot_events, in_group, members_now};
+ghost use Rattle.lb_rebuild_core.specs.GroupHistory.{History, Set, slot_events, members_now};
 ghost use Rattle.lb_rebuild_core.specs.GroupStates.{Stands, IsFounded, After, Becomes, SameSite, views_of};
 
 use crate::answers::{Ask, Counts, Publication, Selection, Timing};
@@ -208,11 +204,7 @@ impl<S: BackendSelection> GroupCore<S> {
     /// Selections and readers go on, and what is under way can still come back. It takes no memory.
     pub fn cancel<R: KeyRule + Drop>(&mut self, registry: &mut Registry<R>)
         requires registry { registry.old.id ≡ self.old.registry }
-        ensures stands { Becomes self.old (in_group (Cancelled ∷ [])) self.new }
-        ensures site { SameSite self.old self.new }
-        ensures registry { (key_of : Member → Member) (events : List Event) → IsRegistryAfter R.gives key_of events registry.old
-            → IsRegistryAfter R.gives key_of (Marked self.old.view.id ∷ events) registry.new }
-        ensures one_registry { registry.new.id ≡ registry.old.id }
+        ensures { IsCancelled R.gives self.old registry.old self.new registry.new }
     {
         self.group.cancel();
         registry.remove_view(self.view.id());
@@ -227,12 +219,7 @@ impl<S: BackendSelection> GroupCore<S> {
     /// `NoSuch` where no such slot is there.
     pub fn ask(&mut self, slot: usize, gate: &mut GateCore, now: u128) -> Result<Ask<S>, Refusal>
         requires { gate.old.id ≡ self.old.group.gate }
-        ensures answers { After self.old (λ made e. Asks made (slot_events e) slot gate.old.out now result) }
-        ensures stands { Becomes self.old (in_group (ask_events slot now result)) self.new }
-        ensures site { SameSite self.old self.new }
-        ensures own { IfOk result (λ a. IsOwnJob self.new.group a) }
-        ensures gate { gate.new ≡ gate_after result gate.old }
-        ensures one_gate { gate.new.id ≡ gate.old.id }
+        ensures { IsAsked self.old gate.old slot now result self.new gate.new }
     {
         let answer = self.group.ask(slot, gate, now)?;
         if let Ask::Job(_job) = &answer {
@@ -260,15 +247,7 @@ impl<S: BackendSelection> GroupCore<S> {
         requires config { slice_get (configs_of self.old.group) job.slot ≡ Some job.config }
         requires gate { gate.old.id ≡ self.old.group.gate }
         requires registry { registry.old.id ≡ self.old.registry }
-        ensures answers { After self.old (λ made e. Fails (slot_events e) job result) }
-        ensures stands { Becomes self.old (in_group (fail_events job now result)) self.new }
-        ensures site { SameSite self.old self.new }
-        ensures registry { (key_of : Member → Member) (events : List Event) → IsRegistryAfter R.gives key_of events registry.old
-            → After self.old (λ made e. IsRegistryAfter R.gives key_of
-            (released_where result self.old.view.id job.generation (views_of made e) events) registry.new) }
-        ensures gate { gate.new ≡ gate_back result gate.old }
-        ensures one_gate { gate.new.id ≡ gate.old.id }
-        ensures one_registry { registry.new.id ≡ registry.old.id }
+        ensures { IsFailed R.gives self.old registry.old gate.old job now result self.new registry.new gate.new }
     {
         let generation = job.generation();
         match self.group.fail(job, gate, now) {
@@ -290,9 +269,7 @@ impl<S: BackendSelection> GroupCore<S> {
         requires own { built.task.group ≡ self.old.group.id }
         requires permit { built.task.permit ≡ self.old.group.gate }
         requires config { slice_get (configs_of self.old.group) built.task.slot ≡ Some built.task.config }
-        ensures answers { After self.old (λ made e. Publishes (slot_events e) built result) }
-        ensures stands { Becomes self.old (in_group (publish_events built result)) self.new }
-        ensures site { SameSite self.old self.new }
+        ensures { IsPublished self.old built result self.new }
     {
         self.group.publish(built)
     }
@@ -308,9 +285,7 @@ impl<S: BackendSelection> GroupCore<S> {
         requires own { built.task.group ≡ self.old.group.id }
         requires permit { built.task.permit ≡ self.old.group.gate }
         requires config { slice_get (configs_of self.old.group) built.task.slot ≡ Some built.task.config }
-        ensures answers { After self.old (λ made e. Abandons (slot_events e) built result) }
-        ensures stands { Becomes self.old (in_group (abandon_events built result)) self.new }
-        ensures site { SameSite self.old self.new }
+        ensures { IsAbandoned self.old built result self.new }
     {
         self.group.abandon(built)
     }
@@ -323,9 +298,7 @@ impl<S: BackendSelection> GroupCore<S> {
     ///
     /// `NoSuch` where no such slot is there, and `NothingInFlight` where it has no flight.
     pub fn worker_lost(&mut self, slot: usize) -> Result<(), Refusal>
-        ensures answers { After self.old (λ made e. Unless (lose_refusal made slot (slot_events e)) result) }
-        ensures stands { Becomes self.old (in_group (done_at slot WorkerLost result)) self.new }
-        ensures site { SameSite self.old self.new }
+        ensures { IsWorkerLost self.old slot result self.new }
     {
         self.group.worker_lost(slot)
     }
@@ -337,10 +310,7 @@ impl<S: BackendSelection> GroupCore<S> {
     /// `NoSuch` where no such slot is there; `NumbersExhausted` where its readers are at 18446744073709551615; `OutOfMemory`
     /// where neither holds and memory is refused. Nothing changes then.
     pub fn enter(&mut self, slot: usize) -> Result<Reader<S>, Refusal>
-        ensures answers { After self.old (λ made e. Enters made (slot_events e) slot result) }
-        ensures stands { Becomes self.old (in_group (done_at slot Entered result)) self.new }
-        ensures site { SameSite self.old self.new }
-        ensures own { IfOk result (λ r. r.group ≡ self.new.group.id) }
+        ensures { IsEntered self.old slot result self.new }
     {
         self.group.enter(slot)
     }
@@ -356,8 +326,7 @@ impl<S: BackendSelection> GroupCore<S> {
     ) -> bool
         requires own { reader.now.group ≡ self.now.group.id }
         requires registry { registry.now.id ≡ self.now.registry }
-        ensures { (key_of : Member → Member) (events : List Event) → IsRegistryAfter R.gives key_of events registry.now
-            → After self.now (λ made e. IsTrue result ↔ IsReady key_of (views_of made e) events reader.now.generation backend.now) }
+        ensures { IsReadyFor R.gives self.now registry.now reader.now backend.now result }
     {
         self.view.ready_in(registry, reader.generation(), backend)
     }
@@ -365,10 +334,7 @@ impl<S: BackendSelection> GroupCore<S> {
     /// Returns the next ticket of the selector that a reader is in, as a group without a view does: each selector has a counter of its
     /// own, which its readers go on in while it is retired. It takes no memory.
     pub fn ticket(&mut self, reader: &Reader<S>) -> u64
-        ensures answers { After self.old (λ made e. IsTicket made (slot_events e) reader.now.slot reader.now.generation result) }
-        ensures stands { After self.old (λ made e. Stands made
-            (in_group (ticket_events made reader.now.slot reader.now.generation result (slot_events e)) ++ e) self.new) }
-        ensures site { SameSite self.old self.new }
+        ensures { IsTicketDrawn self.old reader.now result self.new }
     {
         self.group.ticket(reader)
     }
@@ -382,9 +348,7 @@ impl<S: BackendSelection> GroupCore<S> {
     /// The reader, where its slot counts no reader of its generation. Nothing changes then.
     pub fn leave(&mut self, reader: Reader<S>) -> Result<(), Reader<S>>
         requires { reader.group ≡ self.old.group.id }
-        ensures answers { After self.old (λ made e. Leaves made (slot_events e) reader result) }
-        ensures stands { Becomes self.old (in_group (done_at reader.slot (Left reader.generation) result)) self.new }
-        ensures site { SameSite self.old self.new }
+        ensures { IsLeft self.old reader result self.new }
     {
         self.group.leave(reader)
     }
@@ -398,10 +362,7 @@ impl<S: BackendSelection> GroupCore<S> {
     /// `NoSuch` where no such slot is there; `StillRead` with the number of readers that are left in it; `NothingRetired`
     /// where no retired selector is there. Nothing changes then.
     pub fn take_retired(&mut self, slot: usize) -> Result<Retired<S>, Refusal>
-        ensures answers { After self.old (λ made e. Takes made (slot_events e) slot result) }
-        ensures stands { Becomes self.old (in_group (done_at slot TakenOut result)) self.new }
-        ensures site { SameSite self.old self.new }
-        ensures own { IfOk result (λ r. (r.group ≡ self.new.group.id) × (r.slot ≡ slot) × (r.permit ≡ self.new.group.gate)) }
+        ensures { IsTaken self.old slot result self.new }
     {
         self.group.take_retired(slot)
     }
@@ -424,15 +385,7 @@ impl<S: BackendSelection> GroupCore<S> {
         requires permit { permit.gate ≡ self.old.group.gate }
         requires gate { gate.old.id ≡ self.old.group.gate }
         requires registry { registry.old.id ≡ self.old.registry }
-        ensures answers { After self.old (λ made e. Reports made (slot_events e) slot permit result) }
-        ensures stands { Becomes self.old (in_group (done_at slot Destroyed result)) self.new }
-        ensures site { SameSite self.old self.new }
-        ensures registry { (key_of : Member → Member) (events : List Event) → IsRegistryAfter R.gives key_of events registry.old
-            → After self.old (λ made e. IsRegistryAfter R.gives key_of
-            (released_where result self.old.view.id (generation_at slot e) (views_of made e) events) registry.new) }
-        ensures gate { gate.new ≡ gate_back result gate.old }
-        ensures one_gate { gate.new.id ≡ gate.old.id }
-        ensures one_registry { registry.new.id ≡ registry.old.id }
+        ensures { IsReported R.gives self.old registry.old gate.old slot permit result self.new registry.new gate.new }
     {
         let Some(generation) = self.group.taken_out(slot) else {
             return Err(permit);

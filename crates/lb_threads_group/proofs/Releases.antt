@@ -7,12 +7,11 @@ use Rattle.lb_health_view.specs.RegistrySide.{registry_updated}
 use Rattle.lb_health_view.specs.ViewEvents as view
 use Rattle.lb_health_view.specs.ViewEvents.{ViewEvent}
 use Rattle.lb_rebuild_core.specs.Stands.{Made}
-use Rattle.lb_rebuild_core.specs.GroupCalls.{released_where}
+use Rattle.lb_rebuild_core.specs.GroupCalls.{IsReleasedWhere, released_where}
 use Rattle.lb_rebuild_core.specs.GroupHistory.{History}
 use Rattle.lb_rebuild_core.specs.GroupStates.{GroupValue, IsFounded, After, views_of}
 use Rattle.lb_threads_core.specs.Registry.{IsRegistryOf, Becomes}
 use Rattle.lb_threads_core.proofs.Histories.{Longer, changed, lengthened, no_more, released, stays}
-use Rattle.lb_threads_group.specs.Group.{IsReleasedWhere}
 
 let_go : {A B : Type 0} (a : Result A B) (id g : ℕ) (views : List ViewEvent) (events : List Event)
     → Longer events (released_where a id g views events)

@@ -1,26 +1,23 @@
 -- What is known of a group that threads share: which one it is, its gate and its configurations stay; between two calls of a thread
 -- others may have changed the rest. So a call is one of the plain group at some state of this group, the one that its lock gave.
-use Rattle.std.specs.Prelude.{◌≡◌, ◌↔◌, ℕ, Bool, List, [], ◌∷◌, Option, Some, Result, Ok, Err, IsTrue, slice_get}
+use Rattle.std.specs.Prelude.{◌≡◌, ◌↔◌, ℕ, Bool, List, [], ◌∷◌, Some, Result, Ok, Err, IsTrue, slice_get}
 use Rattle.lb_select_base.specs.Backends.{Member}
-use Rattle.lb_select_base.specs.Draws.{Draw}
 use Rattle.lb_select_base.specs.declared.refusal.Refusal.{Refusal}
 use Rattle.lb_rebuild_core.specs.Gate.{GateValue}
 use Rattle.lb_health_core.specs.Registry.{RegistryValue, IsRegistryAfter}
 use Rattle.lb_health_core.specs.RegistryEvents.{Event}
-use Rattle.lb_rebuild_core.specs.SlotsCalls.{Fails, fail_events, Publishes, publish_events, Leaves, Reports, done_at, gate_back}
 use Rattle.lb_health_view.specs.RegistrySide.{IsReady}
-use Rattle.lb_rebuild_core.specs.SlotsHistory.{Left, Destroyed, newest}
+use Rattle.lb_rebuild_core.specs.SlotsHistory.{newest}
 use Rattle.lb_rebuild_core.specs.Values.{Task, BuiltValue, RetiredValue, PermitValue, ReaderValue, configs_of}
 use Rattle.lb_rebuild_core.specs.declared.answers.Ask.{Ask}
 use Rattle.lb_rebuild_core.specs.declared.answers.Publication.{Publication}
 use Rattle.lb_rebuild_core.specs.declared.answers.Publication.TheVariants as told
 use Rattle.lb_rebuild_core.specs.declared.membership.Scheduled.{Scheduled}
-use Rattle.lb_rebuild_core.specs.GroupCalls.{IsScheduled, released_where, generation_at}
-use Rattle.lb_rebuild_core.specs.GroupHistory.{History, Set, slot_events, in_group}
-use Rattle.lb_rebuild_core.specs.Stands.{Made}
+use Rattle.lb_rebuild_core.specs.GroupCalls.{IsScheduled, IsAsked, IsFailed, IsPublished, IsEntered, IsLeft, IsTaken, IsReported}
+use Rattle.lb_rebuild_core.specs.GroupCalls.{IsReadyFor}
+use Rattle.lb_rebuild_core.specs.GroupHistory.{Set, slot_events}
 use Rattle.lb_rebuild_core.specs.GroupStates.{GroupValue, After, Becomes, IsFounded, SameSite, views_of}
 use Rattle.lb_balancer_core.specs.Through.{UpdatedThrough}
-use Rattle.lb_balancer_core.specs.Plain.{IsAsked, IsEntered, IsTaken, IsReadyFor}
 use Rattle.lb_threads_core.specs.Registry.{IsRegistryOf, UnderRegistry}
 use Rattle.lb_threads_group.specs.Shared.{SharedValue}
 
@@ -65,8 +62,7 @@ module _ {C : Type 0} where
   abbrev pub LeftUnder : GroupValue C → ReaderValue C → Type 0
   LeftUnder site r =
       (a : Result (Unit {0}) (ReaderValue C))
-      × Under site (λ v w. After v (λ made e. Leaves made (slot_events e) r a)
-      × Becomes v (in_group (done_at r.slot (Left r.generation) a)) w × SameSite v w)
+      × Under site (λ v w. IsLeft v r a w)
 
   -- what was built of a job that is awaited no longer counts as abandoned
   abbrev pub told_of : BuiltValue C → Result Publication (BuiltValue C) → Publication
@@ -76,8 +72,7 @@ module _ {C : Type 0} where
   abbrev pub PublishedUnder : GroupValue C → BuiltValue C → Publication → Type 0
   PublishedUnder site b t =
       (a : Result Publication (BuiltValue C))
-      × ((t ≡ told_of b a) × Under site (λ v w. After v (λ made e. Publishes (slot_events e) b a)
-      × Becomes v (in_group (publish_events b a)) w × SameSite v w))
+      × ((t ≡ told_of b a) × Under site (λ v w. IsPublished v b a w))
 
 module _ {S C W : Type 0} where
   abbrev pub AskedUnder : GroupValue C → ℕ → ℕ → Result (Ask S C W) Refusal → Type 0
@@ -89,28 +84,16 @@ module _ {C R : Type 0} (gives : R → Member → Member → Type 0) where
   SeenBeside site Told =
       (v : GroupValue C) × ((x : RegistryValue R) × (IsState site.core v × (IsRegistryOf gives site.registry x × Told v x)))
 
-  -- the snapshot of that generation is released where something was taken back
-  abbrev pub IsReleasedWhere :
-      {A B : Type 0} → Result A B → GroupValue C → (Made C → History → ℕ) → RegistryValue R → RegistryValue R → Type 0
-  IsReleasedWhere a v generation x y =
-      (key_of : Member → Member) (events : List Event) → IsRegistryAfter gives key_of events x
-      → After v (λ made e. IsRegistryAfter gives key_of
-      (released_where a v.view.id (generation made e) (views_of made e) events) y)
-
   -- a job whose flight is over, or nothing where none is awaited
   abbrev pub FailedUnder : SharedValue C R → Task C → ℕ → Type 0
   FailedUnder site j now =
       (a : Result (Unit {0}) (Task C))
-      × UnderRegistry gives site.registry (λ x y. UnderGate site.core (λ v g w k. After v (λ made e. Fails (slot_events e) j a)
-      × Becomes v (in_group (fail_events j now a)) w × SameSite v w × (k ≡ gate_back a g)
-      × IsReleasedWhere a v (λ made e. j.generation) x y))
+      × UnderRegistry gives site.registry (λ x y. UnderGate site.core (λ v g w k. IsFailed gives v x g j now a w y k))
 
   abbrev pub ReportedUnder : SharedValue C R → ℕ → PermitValue → Type 0
   ReportedUnder site slot p =
       (a : Result (Unit {0}) PermitValue)
-      × UnderRegistry gives site.registry (λ x y. UnderGate site.core (λ v g w k. After v (λ made e. Reports made (slot_events e) slot p a)
-      × Becomes v (in_group (done_at slot Destroyed a)) w × SameSite v w × (k ≡ gate_back a g)
-      × IsReleasedWhere a v (λ made e. generation_at slot e) x y))
+      × UnderRegistry gives site.registry (λ x y. UnderGate site.core (λ v g w k. IsReported gives v x g slot p a w y k))
 
   abbrev pub ReadyUnder : SharedValue C R → ReaderValue C → Member → Bool → Type 0
   ReadyUnder site r b a = SeenBeside site (λ v x. IsReadyFor gives v x r b a)

@@ -5,7 +5,7 @@ ghost use Rattle.std.specs.Arc.{arc_value};
 ghost use Rattle.std.specs.Fn.{FnReturnsAt};
 ghost use Rattle.lb_rebuild.specs.Pass.{IsLoad, IsLater, AreServed, HasSeenBelow, HasMet, newest_of, served_of};
 ghost use Rattle.lb_rebuild_core.specs.GroupStates.{IsFounded};
-ghost use Rattle.lb_balancer_core.specs.Plain.{IsEntered};
+ghost use Rattle.lb_rebuild_core.specs.GroupCalls.{IsEntered};
 ghost use Rattle.lb_threads_group.specs.Group.{EnteredUnder, LeftUnder, UpdatedUnder};
 ghost use Rattle.lb_threads_group.specs.Shared.{IsSame, IsEntryRefusal, SelectsByAny};
 

@@ -31,13 +31,13 @@ module _ {C : Type 0} where
       let e = own.1.1.0 in
       let es : core.History = ticket_events made r.slot r.generation t (slot_events e) in
       let same : slot_events (in_group es ++ e) ≡ es ++ slot_events e = group-joined es e in (
-        own.0 ∙ sym is.2.group.id,
+        own.0 ∙ sym is.0.site.group.id,
         (
           made,
           (
             in_group es ++ e,
             (
-              is.1 made e own.1.1.1.0,
+              is.0.stands made e own.1.1.1.0,
               ap (λ h. is_read made r.slot r.generation h) same
                   ∙ read-drawn made (slot_events e) r.slot r.generation _ (serves made r.slot r.generation (slot_events e))
                   (has_retired made r.slot r.generation (slot_events e))

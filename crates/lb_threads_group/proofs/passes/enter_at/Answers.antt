@@ -8,7 +8,7 @@ returns-clause-found g c =
     let here = c.core-core.ensures in
     let told =
     entered_ok c.in_ok-reader.reader (founded_as here c.past.ensures) (told_as here c.served.ensures) c.in-Some.is
-    c.in_ok-reader.ensures.answers in
+    c.in_ok-reader.ensures.entered.answers in
     let same : c.in-Some.served ≡ c.args.found = search rules in
     let own : c.in_ok-reader.reader.group ≡ c.args.watched.now.core.group.id = search rules in
     (told.0, told.1 ∙ same, own)
@@ -18,4 +18,4 @@ returns-in_err-reader-clause-refused g c =
     let here = c.core-core.ensures in
     let is : c.from_residual.result ≡ Err c.in_err-reader.field-0.0 = search rules in
     rw is (entered_err c.args.slot c.in_err-reader.field-0.0 (founded_as here c.past.ensures) (told_as here c.served.ensures) c.in-Some.is
-    c.in_err-reader.ensures.answers)
+    c.in_err-reader.ensures.entered.answers)

@@ -1,6 +1,7 @@
 -- The view does not see it.
 use Rattle.std.proofs.Common.{refl, length}
 use Rattle.lb_rebuild_core.specs.SlotsCalls.{abandon_events}
+use Rattle.lb_rebuild_core.specs.GroupHistory.{slot_events}
 use Rattle.lb_rebuild_core.proofs.Joins.{joined-still, still-abandoned}
 use Rattle.lb_rebuild_core.proofs.group.GroupCore.abandon.Goals as goal
 
@@ -15,7 +16,12 @@ invariant_of-self g c =
       ),
     )
 
-pub returns-clause-stands : goal.returns-clause-stands
-returns-clause-stands g c made e s =
-    joined-still made e (abandon_events c.args.built c.abandon.result) _ _ _ _ c.self.view_is s (c.abandon.ensures.stands made)
-    (still-abandoned (length made.configs) c.args.built c.abandon.result e)
+pub returns : goal.returns
+returns g c =
+    let told = c.abandon.ensures in
+    rw (← c.self.view_is) (record {
+      answers = λ made e s. told.answers made (slot_events e) s.group;
+      stands = λ made e s. joined-still made e (abandon_events c.args.built c.abandon.result) _ _ _ _ refl s (told.stands made)
+          (still-abandoned (length made.configs) c.args.built c.abandon.result e);
+      site = record { group = told.site; id = refl; registry = refl };
+    })

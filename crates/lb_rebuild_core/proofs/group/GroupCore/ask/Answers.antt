@@ -1,10 +1,10 @@
 -- A job holds the newest snapshot.
-use Rattle.std.proofs.Common.{◌∷◌}
+use Rattle.std.proofs.Common.{◌∷◌, refl}
 use Rattle.lb_rebuild_core.specs.SlotsHistory.{Granted, At as Happened}
 use Rattle.lb_rebuild_core.specs.Stands.{StandsFor}
 use Rattle.lb_rebuild_core.specs.GroupHistory.{slot_events}
 use Rattle.lb_rebuild_core.specs.GroupStates.{views_of}
-use Rattle.lb_rebuild_core.proofs.Joins.{ask-fits, job-stands, job-joined, other-joined, group-part, view-part}
+use Rattle.lb_rebuild_core.proofs.Joins.{ask-fits, job-stands, job-joined, other-joined}
 use Rattle.lb_rebuild_core.proofs.group.GroupCore.ask.Goals as goal
 use Rattle.lb_rebuild_core.proofs.group.GroupCore.ask.Goals.{in-Job, in_default}
 
@@ -34,19 +34,31 @@ invariant_of-self-in-Job g c =
       ),
     )
 
-pub returns-clause-stands : goal.returns-clause-stands
-returns-clause-stands g c made e s =
-    let own = group-part made e _ _ _ c.self.view_is s in
-    let seen = view-part made e _ _ _ c.self.view_is s in
-    let stands = c.in_ok-answer.ensures.stands made (slot_events e) own in
-    let inside = (c.in_ok-answer.ensures.answers made (slot_events e) own).0 in
+pub returns : goal.returns
+returns g c =
+    let told = c.in_ok-answer.ensures in
     elim c.match-answer.branch [
-      | in-Job w ↦
-          let after : StandsFor made (Happened c.args.slot (Granted c.args.now) ∷ slot_events e) c.ask.new.self =
-          job-stands made (slot_events e) c.args.slot c.args.now c.in_ok-answer.answer w.in-Job._job c.ask.new.self w.in-Job.is stands in
-          rw (w.self-is, w.in-Job.is) (job-joined made e c.args.slot c.args.now w.newest.result c.ask.new.self w.hold.new.self s.few inside
-          after (w.newest.ensures made _ after)
-          (w.hold.ensures.after (views_of made e) seen))
-      | in_default w ↦ rw w.self-is (other-joined made e c.args.slot c.args.now c.in_ok-answer.answer c.ask.new.self c.self.inside.view
-          s.few w.in_default.not-Job stands seen)
+      | in-Job w ↦ rw (w.self-is, ← c.self.view_is) (record {
+        answers = λ made e s. told.answers made (slot_events e) s.group;
+        stands = λ made e s.
+            let after : StandsFor made (Happened c.args.slot (Granted c.args.now) ∷ slot_events e) c.ask.new.self =
+            job-stands made (slot_events e) c.args.slot c.args.now c.in_ok-answer.answer w.in-Job._job c.ask.new.self w.in-Job.is
+            (told.stands made (slot_events e) s.group) in
+            rw w.in-Job.is (job-joined made e c.args.slot c.args.now w.newest.result c.ask.new.self w.hold.new.self s.few
+            (told.answers made (slot_events e) s.group).0 after (w.newest.ensures made _ after)
+            (w.hold.ensures.after (views_of made e) s.view));
+        site = record { group = c.ask.ensures.site; id = w.hold.ensures.id; registry = refl };
+        own = told.own;
+        gate = told.gate;
+        one_gate = told.one_gate;
+      })
+      | in_default w ↦ rw (w.self-is, ← c.self.view_is) (record {
+        answers = λ made e s. told.answers made (slot_events e) s.group;
+        stands = λ made e s. other-joined made e c.args.slot c.args.now c.in_ok-answer.answer c.ask.new.self c.self.inside.view s.few
+            w.in_default.not-Job (told.stands made (slot_events e) s.group) s.view;
+        site = record { group = c.ask.ensures.site; id = refl; registry = refl };
+        own = told.own;
+        gate = told.gate;
+        one_gate = told.one_gate;
+      })
     ]

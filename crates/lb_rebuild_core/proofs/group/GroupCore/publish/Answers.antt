@@ -1,6 +1,7 @@
 -- The view does not see it.
 use Rattle.std.proofs.Common.{refl, length}
 use Rattle.lb_rebuild_core.specs.SlotsCalls.{publish_events}
+use Rattle.lb_rebuild_core.specs.GroupHistory.{slot_events}
 use Rattle.lb_rebuild_core.proofs.Joins.{joined-still, still-published}
 use Rattle.lb_rebuild_core.proofs.group.GroupCore.publish.Goals as goal
 
@@ -15,7 +16,12 @@ invariant_of-self g c =
       ),
     )
 
-pub returns-clause-stands : goal.returns-clause-stands
-returns-clause-stands g c made e s =
-    joined-still made e (publish_events c.args.built c.publish.result) _ _ _ _ c.self.view_is s (c.publish.ensures.stands made)
-    (still-published (length made.configs) c.args.built c.publish.result e)
+pub returns : goal.returns
+returns g c =
+    let told = c.publish.ensures in
+    rw (← c.self.view_is) (record {
+      answers = λ made e s. told.answers made (slot_events e) s.group;
+      stands = λ made e s. joined-still made e (publish_events c.args.built c.publish.result) _ _ _ _ refl s (told.stands made)
+          (still-published (length made.configs) c.args.built c.publish.result e);
+      site = record { group = told.site; id = refl; registry = refl };
+    })

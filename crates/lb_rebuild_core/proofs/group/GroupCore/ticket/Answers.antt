@@ -1,5 +1,6 @@
 -- The view does not see it.
 use Rattle.std.proofs.Common.{refl}
+use Rattle.lb_rebuild_core.specs.GroupHistory.{slot_events}
 use Rattle.lb_rebuild_core.proofs.Joins.{joined-ticket}
 use Rattle.lb_rebuild_core.proofs.group.GroupCore.ticket.Goals as goal
 
@@ -14,7 +15,12 @@ invariant_of-self g c =
       ),
     )
 
-pub returns-clause-stands : goal.returns-clause-stands
-returns-clause-stands g c made e s =
-    joined-ticket made e c.args.reader.now.slot c.args.reader.now.generation c.ticket.result _ _ _ _ c.self.view_is s
-    (c.ticket.ensures.stands made)
+pub returns : goal.returns
+returns g c =
+    let told = c.ticket.ensures in
+    rw (← c.self.view_is) (record {
+      answers = λ made e s. told.answers made (slot_events e) s.group;
+      stands = λ made e s. joined-ticket made e c.args.reader.now.slot c.args.reader.now.generation c.ticket.result _ _ _ _ refl s
+          (told.stands made);
+      site = record { group = told.site; id = refl; registry = refl };
+    })

@@ -10,11 +10,11 @@ use Rattle.lb_threads_group.proofs.port.LockedPortGroupPort.destroyed.Goals as g
 pub put_registry-requires-clause-registry : goal.put_registry-requires-clause-registry
 put_registry-requires-clause-registry g c =
     later c.take_registry-cells.ensures.registry (released_later c.destroyed-told.result c.take-held.result.value.core
-    (λ made e. generation_at c.args.slot e) c.founded.ensures c.destroyed-told.ensures.registry)
+    (λ made e. generation_at c.args.slot e) c.founded.ensures c.destroyed-told.ensures.reported.registry)
 
 pub returns-in-Ok : goal.returns-in-Ok
 returns-in-Ok g c =
-    let is = c.in-Ok.ensures in
+    let is = c.in-Ok.ensures.reported in
     let told : Result (Unit {0}) PermitValue = Ok tt in
     let v = c.take-held.result.value.core in (
       (
@@ -37,7 +37,7 @@ returns-in-Ok g c =
                         v,
                         (
                           c.destroyed-told.new.self.core,
-                          ((search rules, c.founded.ensures), (is.answers, is.stands, is.site, is.gate, is.registry)),
+                          ((search rules, c.founded.ensures), is),
                         ),
                       ),
                     ),
@@ -53,7 +53,7 @@ returns-in-Ok g c =
 
 pub returns-in-Err : goal.returns-in-Err
 returns-in-Err g c =
-    let is = c.in-Err.ensures in
+    let is = c.in-Err.ensures.reported in
     let told : Result (Unit {0}) PermitValue = Err c.in-Err.permit in
     let v = c.take-held.result.value.core in (
       (
@@ -76,7 +76,7 @@ returns-in-Err g c =
                         v,
                         (
                           c.destroyed-told.new.self.core,
-                          ((search rules, c.founded.ensures), (is.answers, is.stands, is.site, is.gate, is.registry)),
+                          ((search rules, c.founded.ensures), is),
                         ),
                       ),
                     ),

@@ -9,11 +9,11 @@ use Rattle.lb_threads_group.proofs.port.LockedPortTakesBackRefusedJobBuiltReader
 pub put_registry-requires-clause-registry : goal.put_registry-requires-clause-registry
 put_registry-requires-clause-registry g c =
     later c.take_registry-cells.ensures.registry (released_later c.fail-told.result c.take-held.result.value.core
-    (λ made e. c.into_job-job.result.generation) c.founded.ensures c.fail-told.ensures.registry)
+    (λ made e. c.into_job-job.result.generation) c.founded.ensures c.fail-told.ensures.failed.registry)
 
 pub returns-in-Ok : goal.returns-in-Ok
 returns-in-Ok g c =
-    let is = c.in-Ok.ensures in
+    let is = c.in-Ok.ensures.failed in
     let told : Result (Unit {0}) (Task g.row.S-Config.Denot) = Ok tt in
     let v = c.take-held.result.value.core in
     rw (sym c.into_job-job.ensures) (
@@ -37,7 +37,7 @@ returns-in-Ok g c =
                         v,
                         (
                           c.fail-told.new.self.core,
-                          ((search rules, c.founded.ensures), (is.answers, is.stands, is.site, is.gate, is.registry)),
+                          ((search rules, c.founded.ensures), is),
                         ),
                       ),
                     ),
@@ -53,7 +53,7 @@ returns-in-Ok g c =
 
 pub returns-in-Err : goal.returns-in-Err
 returns-in-Err g c =
-    let is = c.in-Err.ensures in
+    let is = c.in-Err.ensures.failed in
     let told : Result (Unit {0}) (Task g.row.S-Config.Denot) = Err c.in-Err.job in
     let v = c.take-held.result.value.core in
     rw (sym c.into_job-job.ensures) (
@@ -77,7 +77,7 @@ returns-in-Err g c =
                         v,
                         (
                           c.fail-told.new.self.core,
-                          ((search rules, c.founded.ensures), (is.answers, is.stands, is.site, is.gate, is.registry)),
+                          ((search rules, c.founded.ensures), is),
                         ),
                       ),
                     ),
