@@ -4,12 +4,10 @@
 
 pub mod backends;
 pub mod configured;
-pub mod drive;
 pub mod gate_refusal;
 pub mod group;
 mod making;
 mod passes;
-pub mod port;
 pub mod reader;
 mod readings;
 mod running;
