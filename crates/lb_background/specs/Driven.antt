@@ -5,6 +5,8 @@ use Rattle.lb_background.specs.declared.event.Event.{Event}
 use Rattle.lb_background.specs.declared.event.Event.TheVariants as on
 use Rattle.lb_background.specs.declared.event.Action.{Action}
 use Rattle.lb_background.specs.declared.event.Action.TheVariants as to
+use Rattle.lb_background.specs.declared.event.Awaited.{Awaited}
+use Rattle.lb_background.specs.declared.event.Awaited.TheVariants as until
 use Rattle.lb_background.specs.History.{Heard, last}
 
 -- unless the run is to end, which is looked at first, an answer is acted on
@@ -35,18 +37,31 @@ module _ {P : Type 0} (reads : P → ℕ → ℕ → P → Type 0) (does : P →
   abbrev pub DrivenToEnd : (List Heard → Type 0) → P → P → Type 0
   DrivenToEnd Runs p q = (h : List Heard) × Runs h × (last h ≡ to.Return) × Driven p h q
 
--- an answer is acted on by one call: an update with what it answers, a pass of checks, the notifier, and the waits for a moment, for
--- targets and for the end, each with the event that came of it
+-- an answer is acted on by one call: an update with what it answers, a pass of checks, the notifier, and the wait for a moment, for
+-- targets or for the end, with the event that came of it
 module _ {P : Type 0} (updates : P → Result ℕ Refusal → P → Type 0) (checks tells : P → P → Type 0)
-    (sleeps : P → ℕ → Event → P → Type 0) (awaits holds : P → Event → P → Type 0) where
+    (waits : P → Awaited → Event → P → Type 0) where
   abbrev pub Acts : P → Action → Event → P → Type 0
   Acts p to.Update e q = (r : Result ℕ Refusal) × updates p r q × (e ≡ on.Updated r)
   Acts p to.Check e q = checks p q × (e ≡ on.Checked)
   Acts p to.Ready e q = tells p q × (e ≡ on.Told)
-  Acts p (to.SleepUntil moment) e q = sleeps p moment e q
-  Acts p to.WaitTargets e q = awaits p e q
-  Acts p to.Hold e q = holds p e q
+  Acts p (to.SleepUntil moment) e q = waits p (until.Moment moment) e q
+  Acts p to.WaitTargets e q = waits p until.Targets e q
+  Acts p to.Hold e q = waits p until.End e q
   Acts p to.Return e q = ⊥
+
+-- the answer that asks for a wait
+abbrev pub to_await : Awaited → Action
+to_await (until.Moment moment) = to.SleepUntil moment
+to_await until.Targets = to.WaitTargets
+to_await until.End = to.Hold
+
+-- the waits of a port that is never asked to wait for targets, or for the end alone: such a wait is the end
+module _ {P : Type 0} (sleeps : P → ℕ → Event → P → Type 0) where
+  abbrev pub Sleeps : P → Awaited → Event → P → Type 0
+  Sleeps p (until.Moment moment) e q = sleeps p moment e q
+  Sleeps p until.Targets e q = (e ≡ on.Shutdown) × (q ≡ p)
+  Sleeps p until.End e q = (e ≡ on.Shutdown) × (q ≡ p)
 
 -- what a run asks for can be done
 abbrev pub CanDoAll : (Action → Bool) → (Action → Type 0) → Type 0

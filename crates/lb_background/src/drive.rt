@@ -3,7 +3,7 @@ ghost use Rattle.std.specs.Prelude.{◌≢◌, []};
 ghost use Rattle.lb_background.specs.declared.event.Action.TheVariants as to;
 ghost use Rattle.lb_background.specs.Driven.{Acts, ActsUnlessShut, CanDoAll, DrivenToEnd, Reads};
 
-use crate::event::{Action, Event};
+use crate::event::{Action, Awaited, Event};
 use crate::machine::Machine;
 use crate::port::RunPort;
 use std::sync::Wait;
@@ -15,7 +15,7 @@ pub fn drive<R: Wait, M: Machine + Drop, P: RunPort>(rt: &R, run: M, port: &mut 
     requires fresh { M.is_after run [] }
     requires can { CanDoAll M.asks P.can_do }
     ensures { DrivenToEnd (Reads P.moments P.readings)
-        (ActsUnlessShut P.looks (Acts P.updates P.checks P.tells P.sleeps P.awaits P.holds)) (M.is_run (M.plan run)) port.old port.new }
+        (ActsUnlessShut P.looks (Acts P.updates P.checks P.tells P.waits)) (M.is_run (M.plan run)) port.old port.new }
 {
     let mut run = run;
     let mut event = Event::Start;
@@ -35,7 +35,7 @@ pub fn drive<R: Wait, M: Machine + Drop, P: RunPort>(rt: &R, run: M, port: &mut 
 fn act<P: RunPort>(port: &mut P, action: Action) -> Event
     requires more { action ≢ to.Return }
     requires can { P.can_do action }
-    ensures { ActsUnlessShut P.looks (Acts P.updates P.checks P.tells P.sleeps P.awaits P.holds) port.old action result port.new }
+    ensures { ActsUnlessShut P.looks (Acts P.updates P.checks P.tells P.waits) port.old action result port.new }
 {
     if port.is_shut() {
         return Event::Shutdown;
@@ -50,9 +50,9 @@ fn act<P: RunPort>(port: &mut P, action: Action) -> Event
             port.tell_ready();
             Event::Told
         }
-        Action::SleepUntil(moment) => port.sleep_until(moment),
-        Action::WaitTargets => port.await_targets(),
-        Action::Hold => port.hold(),
+        Action::SleepUntil(moment) => port.wait(Awaited::Moment(moment)),
+        Action::WaitTargets => port.wait(Awaited::Targets),
+        Action::Hold => port.wait(Awaited::End),
         Action::Return => unreachable!(),
     }
 }

@@ -46,3 +46,14 @@ pub enum Action {
     /// To end.
     Return,
 }
+
+/// What a run waits for, beside the end of the run.
+#[derive(Clone, Copy, Debug, PartialEq, Eq)]
+pub enum Awaited {
+    /// That this moment comes, or what the run depends on changes.
+    Moment(u128),
+    /// That there are targets of health checks.
+    Targets,
+    /// The end alone.
+    End,
+}

@@ -1,8 +1,9 @@
 //! The port of a run: its clock, what it reads, its updates and checks, its notifier, and its waits.
 ghost use Rattle.std.specs.Prelude.{ℕ, Bool, Result};
-ghost use Rattle.lb_background.specs.declared.event.Action.TheVariants.{Check, Hold, Ready, SleepUntil, Update, WaitTargets};
+ghost use Rattle.lb_background.specs.declared.event.Action.TheVariants.{Check, Ready, Update};
+ghost use Rattle.lb_background.specs.Driven.{to_await};
 
-use crate::event::Event;
+use crate::event::{Awaited, Event};
 use lb_select_base::refusal::Refusal;
 
 /// The calls by which a run is driven. For each a relation says what it returns, and what it leaves.
@@ -10,6 +11,7 @@ use lb_select_base::refusal::Refusal;
 /// `can_do` says when a call may be made. A call that no run of the port asks for is refused, or ends the run.
 pub trait RunPort {
     ghost use Rattle.lb_background.specs.declared.event.Action.{Action};
+    ghost use Rattle.lb_background.specs.declared.event.Awaited.{Awaited};
     ghost use Rattle.lb_background.specs.declared.event.Event.{Event};
     ghost use Rattle.lb_select_base.specs.declared.refusal.Refusal.{Refusal};
 
@@ -28,11 +30,7 @@ pub trait RunPort {
 
     ghost tells: { Self → Self → Type 0 };
 
-    ghost sleeps: { Self → ℕ → Event → Self → Type 0 };
-
-    ghost awaits: { Self → Event → Self → Type 0 };
-
-    ghost holds: { Self → Event → Self → Type 0 };
+    ghost waits: { Self → Awaited → Event → Self → Type 0 };
 
     /// Returns the moment now, in nanoseconds.
     fn now(&mut self) -> u128
@@ -62,18 +60,11 @@ pub trait RunPort {
         requires { can_do Ready }
         ensures { tells self.old self.new };
 
-    /// Waits until the moment has come, the run is to end, or what the run waits for has changed, and returns which of them.
-    fn sleep_until(&mut self, moment: u128) -> Event
-        requires { can_do (SleepUntil moment) }
-        ensures { sleeps self.old moment result self.new };
-
-    /// Waits until there are targets or the run is to end, and returns which of them.
-    fn await_targets(&mut self) -> Event
-        requires { can_do WaitTargets }
-        ensures { awaits self.old result self.new };
-
-    /// Waits until the run is to end, or no signal of that can come any more, and returns which of them.
-    fn hold(&mut self) -> Event
-        requires { can_do Hold }
-        ensures { holds self.old result self.new };
+    /// Waits until what is waited for has come or the run is to end, and returns which event it was.
+    ///
+    /// At a moment that is `Woke`, or the event of what changed before it; at targets `Targets`; and the end is `Shutdown`, or where a run
+    /// waits for it alone `Closed`, once no signal of it can come any more.
+    fn wait(&mut self, awaited: Awaited) -> Event
+        requires { can_do (to_await awaited) }
+        ensures { waits self.old awaited result self.new };
 }

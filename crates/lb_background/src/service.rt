@@ -4,7 +4,7 @@ ghost use Rattle.std.specs.Prelude.{◌≡◌, None, false, []};
 ghost use Rattle.lb_background.specs.Services.{IsServiceAfter};
 
 use crate::drive::drive;
-use crate::event::Event;
+use crate::event::{Awaited, Event};
 use crate::port::RunPort;
 use crate::ready::ServiceReadyNotifier;
 use crate::service_run::ServiceRun;
@@ -131,7 +131,7 @@ impl<
 > RunPort for LockedService<'g, 'p, 'r, 'c, 'w, F, R, C, W, K> {
     ghost use Rattle.std.specs.Prelude.{◌≡◌, Err, None};
     ghost use Rattle.lb_select_base.specs.declared.refusal.Refusal.TheVariants.{NoSuch};
-    ghost use Rattle.lb_background.specs.ServiceDriven.{EndsHold, EndsSleep, EndsWait};
+    ghost use Rattle.lb_background.specs.ServiceDriven.{EndsWait};
 
     ghost moments = { λ p moment q. K.reads p.clock.now moment q.clock.now };
 
@@ -147,11 +147,7 @@ impl<
 
     ghost tells = { λ p q. (q.clock.now ≡ p.clock.now) × (q.notifier ≡ None) };
 
-    ghost sleeps = { λ _ _ e _. EndsSleep e };
-
-    ghost awaits = { λ _ e _. EndsWait e };
-
-    ghost holds = { λ _ e _. EndsHold e };
+    ghost waits = { λ _ awaited e _. EndsWait awaited e };
 
     fn now(&mut self) -> u128 {
         self.clock.now()
@@ -184,47 +180,37 @@ impl<
         }
     }
 
-    fn sleep_until(&mut self, moment: u128) -> Event {
+    fn wait(&mut self, awaited: Awaited) -> Event {
         for _ in self.rt.forever() {
             let heard = self.watch.event();
             if let Some(Event::Shutdown) = heard {
                 return Event::Shutdown;
             }
             let now = self.clock.now();
-            if moment <= now {
-                return Event::Woke;
-            }
-            if self.reading() == 0 {
-                return Event::ViewRemoved;
-            }
-            let look = moment.min(now.saturating_add(WITH_TARGETS));
+            let look = match awaited {
+                Awaited::Moment(moment) => {
+                    if moment <= now {
+                        return Event::Woke;
+                    }
+                    if self.reading() == 0 {
+                        return Event::ViewRemoved;
+                    }
+                    moment.min(now.saturating_add(WITH_TARGETS))
+                }
+                Awaited::Targets => {
+                    if self.reading() > 0 {
+                        return Event::Targets;
+                    }
+                    now.saturating_add(WITHOUT_TARGETS)
+                }
+                Awaited::End => {
+                    if let Some(event) = heard {
+                        return event;
+                    }
+                    now.saturating_add(WITH_TARGETS)
+                }
+            };
             self.watch.wait_until(self.rt, self.clock, look, heard);
-        }
-        unreachable!()
-    }
-
-    fn await_targets(&mut self) -> Event {
-        for _ in self.rt.forever() {
-            let heard = self.watch.event();
-            if let Some(Event::Shutdown) = heard {
-                return Event::Shutdown;
-            }
-            if self.reading() > 0 {
-                return Event::Targets;
-            }
-            let look = self.clock.now().saturating_add(WITHOUT_TARGETS);
-            self.watch.wait_until(self.rt, self.clock, look, heard);
-        }
-        unreachable!()
-    }
-
-    fn hold(&mut self) -> Event {
-        for _ in self.rt.forever() {
-            if let Some(event) = self.watch.event() {
-                return event;
-            }
-            let look = self.clock.now().saturating_add(WITH_TARGETS);
-            self.watch.wait_until(self.rt, self.clock, look, None);
         }
         unreachable!()
     }

@@ -6,7 +6,7 @@ use crate::balancing::Balancing;
 use crate::load_balancer::LoadBalancer;
 use lb_background::balancer_run::LoadBalancerRun;
 use lb_background::drive::drive;
-use lb_background::event::Event;
+use lb_background::event::{Awaited, Event};
 use lb_background::port::RunPort;
 use lb_background::ready::ServiceReadyNotifier;
 use lb_background::shutdown::ShutdownWatch;
@@ -117,7 +117,7 @@ impl<
     K: MomentSource,
 > RunPort for SharedPort<'b, 'p, 'r, 'c, 'w, F, S, D, R, C, W, K> {
     ghost use Rattle.std.specs.Prelude.{◌≡◌, None, IfErr, IfOk, OnOk};
-    ghost use Rattle.lb_background.specs.declared.event.Event.TheVariants.{Shutdown};
+    ghost use Rattle.lb_background.specs.Driven.{Sleeps};
     ghost use Rattle.lb_balancer.specs.History.{IsServedGeneration};
     ghost use Rattle.lb_balancer.specs.SharedUpdates.{EndsSleep, IsSharedRefusal, IsSharedUpdated, ReadsUpdate};
 
@@ -137,11 +137,7 @@ impl<
 
     ghost tells = { λ p q. (q.clock.now ≡ p.clock.now) × (q.notifier ≡ None) };
 
-    ghost sleeps = { λ _ moment e q. EndsSleep K.reads moment e q.clock.now };
-
-    ghost awaits = { λ p e q. (e ≡ Shutdown) × (q ≡ p) };
-
-    ghost holds = { λ p e q. (e ≡ Shutdown) × (q ≡ p) };
+    ghost waits = { Sleeps (λ _ moment e q. EndsSleep K.reads moment e q.clock.now) };
 
     fn now(&mut self) -> u128 {
         self.clock.now()
@@ -175,7 +171,11 @@ impl<
         }
     }
 
-    fn sleep_until(&mut self, moment: u128) -> Event {
+    // No run of a balancer waits for targets, or for the end alone: it would end.
+    fn wait(&mut self, awaited: Awaited) -> Event {
+        let Awaited::Moment(moment) = awaited else {
+            return Event::Shutdown;
+        };
         for _ in self.rt.forever() {
             let heard = self.watch.event();
             if let Some(Event::Shutdown) = heard {
@@ -187,15 +187,5 @@ impl<
             self.watch.wait_until(self.rt, self.clock, moment, heard);
         }
         unreachable!()
-    }
-
-    // No run of a balancer asks for this: it would end.
-    fn await_targets(&mut self) -> Event {
-        Event::Shutdown
-    }
-
-    // Nor for this.
-    fn hold(&mut self) -> Event {
-        Event::Shutdown
     }
 }

@@ -3,12 +3,10 @@
 #![tactic(auto)]
 
 pub mod backends;
-pub mod drive;
 pub mod gate_refusal;
 pub mod group;
 mod making;
 mod passes;
-pub mod port;
 pub mod reader;
 mod readings;
 mod running;

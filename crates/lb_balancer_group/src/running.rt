@@ -3,12 +3,12 @@ ghost use Rattle.std.specs.Prelude.{[], OnErr};
 ghost use Rattle.lb_health_core.specs.Registry.{IsGrowthRefusal};
 ghost use Rattle.lb_background.specs.History.{IsAfter};
 
-use crate::drive::drive;
 use crate::group::LoadBalancerGroup;
-use crate::port::GroupRunPort;
 use crate::start::start_workers;
-use lb_background::event::Event;
+use lb_background::drive::drive;
+use lb_background::event::{Awaited, Event};
 use lb_background::group_run::GroupRun;
+use lb_background::port::RunPort;
 use lb_background::ready::ServiceReadyNotifier;
 use lb_background::shutdown::ShutdownWatch;
 use lb_health_core::health_check::HealthCheck;
@@ -187,20 +187,21 @@ impl<
     R: KeyRule + Drop,
     C: HealthCheck + Drop,
     K: MomentSource,
-> GroupRunPort for LockedRun<'r, 'g, 's, 'p, 'c, 'w, F, G, S, W, D, R, C, K> {
+> RunPort for LockedRun<'r, 'g, 's, 'p, 'c, 'w, F, G, S, W, D, R, C, K> {
     ghost use Rattle.std.specs.Prelude.{◌≡◌, None};
     ghost use Rattle.std.specs.Arc.{arc_value};
+    ghost use Rattle.lb_background.specs.Driven.{Sleeps};
     ghost use Rattle.lb_threads_group.specs.Group.{UpdatedUnder};
     ghost use Rattle.lb_health_view.specs.Discoveries.{FoundBy};
     ghost use Rattle.lb_balancer_group.specs.Readiness.{EndsSleep};
 
     ghost moments = { λ p moment q. K.reads p.clock.now moment q.clock.now };
 
-    ghost leasts = { λ p least q. (q.clock.now ≡ p.clock.now) × (q.told ≡ least) };
+    ghost readings = { λ p least q. (q.clock.now ≡ p.clock.now) × (q.told ≡ least) };
 
     ghost looks = { λ p _ q. q.clock.now ≡ p.clock.now };
 
-    ghost can_run = { ((start : F) → F.IsAlwaysCallable start) × ((pass : G) → G.IsAlwaysCallable pass) };
+    ghost can_do = { λ _. ((start : F) → F.IsAlwaysCallable start) × ((pass : G) → G.IsAlwaysCallable pass) };
 
     ghost updates = { λ p r q. UpdatedUnder R.gives K.reads (FoundBy D.finds) p.group.now.discovery p.clock.now
         (arc_value p.group.now.shared) r q.clock.now };
@@ -209,13 +210,13 @@ impl<
 
     ghost tells = { λ p q. (q.clock.now ≡ p.clock.now) × (q.notifier ≡ None) };
 
-    ghost sleeps = { λ _ _ e _. EndsSleep e };
+    ghost waits = { Sleeps (λ _ _ e _. EndsSleep e) };
 
     fn now(&mut self) -> u128 {
         self.clock.now()
     }
 
-    fn least(&mut self) -> u64 {
+    fn reading(&mut self) -> u64 {
         self.told = self.group.least_served(self.rt);
         self.told
     }
@@ -242,7 +243,11 @@ impl<
         }
     }
 
-    fn sleep_until(&mut self, moment: u128) -> Event {
+    // No run of a group waits for targets, or for the end alone: it would end.
+    fn wait(&mut self, awaited: Awaited) -> Event {
+        let Awaited::Moment(moment) = awaited else {
+            return Event::Shutdown;
+        };
         for _ in self.rt.forever() {
             let heard = self.watch.event();
             if let Some(Event::Shutdown) = heard {

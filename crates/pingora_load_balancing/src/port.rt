@@ -7,5 +7,4 @@ pub use lb_balancer_core::port::{GroupPort, TakesBack};
 pub use lb_balancer_core::select::select_through;
 pub use lb_balancer_core::turn::{Turn, worker_turn};
 pub use lb_balancer_core::update::update_through;
-pub use lb_balancer_group::port::GroupRunPort;
 pub use lb_threads_group::port::LockedPort;

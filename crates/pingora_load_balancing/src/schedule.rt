@@ -2,7 +2,7 @@
 //! events with their moments, and returns an action; its laws hold for every list of events.
 pub use lb_background::background::BackgroundSchedule;
 pub use lb_background::balancer_run::LoadBalancerRun;
-pub use lb_background::event::{Action, Event};
+pub use lb_background::event::{Action, Awaited, Event};
 pub use lb_background::group_run::GroupRun;
 pub use lb_background::laws;
 pub use lb_background::machine::Machine;

@@ -25,7 +25,7 @@ act-event-requires g c =
     let i = c.loop.invariant in
     let p = g.P.RunPort in
     let begun = has_begun (Reads p.moments p.readings)
-    (ActsUnlessShut p.looks (Acts p.updates p.checks p.tells p.sleeps p.awaits p.holds)) _ i.3 c.loop.port i.0 c.loop.event i.4 i.5 in
+    (ActsUnlessShut p.looks (Acts p.updates p.checks p.tells p.waits)) _ i.3 c.loop.port i.0 c.loop.event i.4 i.5 in
     record {
       more = c.in_default.not-Return;
       can = c.requires.can c.step-action.result (c.step-action.ensures.asked i.0 i.1 begun c.in_default.not-Return);

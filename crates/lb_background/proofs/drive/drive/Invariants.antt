@@ -9,6 +9,6 @@ invariant-loop g l =
     let m = g.M.Machine in
     let p = g.P.RunPort in
     let reads = Reads p.moments p.readings in
-    let does = ActsUnlessShut p.looks (Acts p.updates p.checks p.tells p.sleeps p.awaits p.holds) in
+    let does = ActsUnlessShut p.looks (Acts p.updates p.checks p.tells p.waits) in
     (h : List Heard) × m.is_after l.run h × (m.plan l.run ≡ m.plan l.fn.run) × (a : g.row.P.Denot)
     × Driven reads does l.fn.port h a × Told reads does a h l.event l.port
