@@ -47,7 +47,7 @@ pub enum Action {
     Return,
 }
 
-/// What a run waits for, beside the end of the run.
+/// What a run waits for, besides its end.
 #[derive(Clone, Copy, Debug, PartialEq, Eq)]
 pub enum Awaited {
     /// That this moment comes, or what the run depends on changes.
