@@ -15,7 +15,8 @@ use Rattle.lb_crowd.proofs.crowd.starts_reader.Goals as goal
 -- what the closure captures, in the order of its use: the group, the runtime, the allocator and the counts
 pub spawn-started-requires-send-F : goal.spawn-started-requires-send-F
 spawn-started-requires-send-F g c κs within =
-    let T = param 0 g.row.S in let R = param 1 g.row.R in let H = param 2 g.row.C in let C = param 4 g.row.S-Config in let W = param 5 g.row.S-Walk in
+    let T = param 0 g.row.S in let R = param 1 g.row.R in let H = param 2 g.row.C in
+    let C = param 4 g.row.S-Config in let W = param 5 g.row.S-Walk in
     let b = c.type_bounds in
     let group = shared.the_row T R H C W g.S.BackendSelection g.R.KeyRule in
     let s = shared_send T R H C W g.S.BackendSelection g.R.KeyRule b.send-S b.send-S-Config b.sync-S b.sync-S-Config
