@@ -1,6 +1,8 @@
 //! The service that checks the targets of a registry in the background, while other threads use the registry. Each verdict takes the
 //! registry's own lock.
 ghost use Rattle.std.specs.Prelude.{◌≡◌, None, false, []};
+ghost use Rattle.lb_background.specs.declared.event.Awaited.TheVariants as until;
+ghost use Rattle.lb_background.specs.ServiceDriven.{EndsWait};
 ghost use Rattle.lb_background.specs.Services.{IsServiceAfter};
 
 use crate::drive::drive;
@@ -181,36 +183,76 @@ impl<
     }
 
     fn wait(&mut self, awaited: Awaited) -> Event {
+        match awaited {
+            Awaited::Moment(moment) => self.sleep_until(moment),
+            Awaited::Targets => self.await_targets(),
+            Awaited::End => self.hold(),
+        }
+    }
+}
+
+impl<
+    'g,
+    'p,
+    'r,
+    'c,
+    'w,
+    F: Fn(),
+    R: KeyRule + Drop,
+    C: HealthCheck + Drop,
+    W: Wait,
+    K: MomentSource,
+> LockedService<'g, 'p, 'r, 'c, 'w, F, R, C, W, K> {
+    // Waits until the moment has come, no target is left, or the service is to end.
+    fn sleep_until(&mut self, moment: u128) -> Event
+        ensures { EndsWait (until.Moment moment) result }
+    {
         for _ in self.rt.forever() {
             let heard = self.watch.event();
             if let Some(Event::Shutdown) = heard {
                 return Event::Shutdown;
             }
             let now = self.clock.now();
-            let look = match awaited {
-                Awaited::Moment(moment) => {
-                    if moment <= now {
-                        return Event::Woke;
-                    }
-                    if self.reading() == 0 {
-                        return Event::ViewRemoved;
-                    }
-                    moment.min(now.saturating_add(WITH_TARGETS))
-                }
-                Awaited::Targets => {
-                    if self.reading() > 0 {
-                        return Event::Targets;
-                    }
-                    now.saturating_add(WITHOUT_TARGETS)
-                }
-                Awaited::End => {
-                    if let Some(event) = heard {
-                        return event;
-                    }
-                    now.saturating_add(WITH_TARGETS)
-                }
-            };
+            if moment <= now {
+                return Event::Woke;
+            }
+            if self.reading() == 0 {
+                return Event::ViewRemoved;
+            }
+            let look = moment.min(now.saturating_add(WITH_TARGETS));
             self.watch.wait_until(self.rt, self.clock, look, heard);
+        }
+        unreachable!()
+    }
+
+    // Waits until there are targets, or the service is to end.
+    fn await_targets(&mut self) -> Event
+        ensures { EndsWait until.Targets result }
+    {
+        for _ in self.rt.forever() {
+            let heard = self.watch.event();
+            if let Some(Event::Shutdown) = heard {
+                return Event::Shutdown;
+            }
+            if self.reading() > 0 {
+                return Event::Targets;
+            }
+            let look = self.clock.now().saturating_add(WITHOUT_TARGETS);
+            self.watch.wait_until(self.rt, self.clock, look, heard);
+        }
+        unreachable!()
+    }
+
+    // Waits until the service is to end, or no signal of that can come any more.
+    fn hold(&mut self) -> Event
+        ensures { EndsWait until.End result }
+    {
+        for _ in self.rt.forever() {
+            if let Some(event) = self.watch.event() {
+                return event;
+            }
+            let look = self.clock.now().saturating_add(WITH_TARGETS);
+            self.watch.wait_until(self.rt, self.clock, look, None);
         }
         unreachable!()
     }
