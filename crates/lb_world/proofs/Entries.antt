@@ -427,7 +427,7 @@ module _ {C : Type 0} {M : Meaning C} {h : History C} {g : ℕ} {e : EntryValue 
       inl (rw (b.is.made_is, (there-at (configs_of e.core.group) s within).1)
       (ap (asked (slots.newest (slot_events g h))) (rw (group-of g h, b.out, ← free-in M h b.run e.gate) at to)))
 
-  pub next-asked : {S I W : Type 0} {s now : ℕ} (a : Ask S C W) (t : AskAnswer) {x : Answer} {core : GroupValue C} {y : GateValue}
+  pub next-asked : {S W : Type 0} {s now : ℕ} (a : Ask S C W) (t : AskAnswer) {x : Answer} {core : GroupValue C} {y : GateValue}
       → ask_told a ≡ t → IsUngranted t x → Asks (site e.core) (group.slot_events (group_events g h)) s z.out now (Ok a)
       → Moves e (group.in_group (asked_events s now (ask_told a)) ++ group_events g h) core → y ≡ asked_gate (ask_told a) z
       → EntryNext M h g (Step.ask g s now) x e z (with_core core e) y v
@@ -442,7 +442,7 @@ module _ {C : Type 0} {M : Meaning C} {h : History C} {g : ℕ} {e : EntryValue 
   next-unasked {s = s} r no_such past moves =
       next-refused b refl (inl (rw (b.is.made_is, slice_get_past (configs_of e.core.group) s past) (ap Answer.Refused no_such))) moves
 
-  pub does-grant : {S I W : Type 0} {s now : ℕ} (a : Ask S C W) (j : Task C) {core : GroupValue C} {old : WorkValue C} {y : GateValue}
+  pub does-grant : {S W : Type 0} {s now : ℕ} (a : Ask S C W) (j : Task C) {core : GroupValue C} {old : WorkValue C} {y : GateValue}
       → ask_told a ≡ job → Asks (site e.core) (group.slot_events (group_events g h)) s z.out now (Ok a)
       → IsJob (site e.core) (group.slot_events (group_events g h)) s j
       → Moves e (group.in_group (asked_events s now (ask_told a)) ++ group_events g h) core
