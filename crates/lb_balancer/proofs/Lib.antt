@@ -1,8 +1,6 @@
-mod FirstViews
 mod Judged
 mod Kepts
 mod Memberships
-mod OfTexts
 mod Parted
 mod Renewals
 mod Served

@@ -13,7 +13,7 @@ ghost use Rattle.lb_rebuild_core.specs.GroupCalls.{AcceptsBy, IsMakingRefusal};
 ghost use Rattle.lb_balancer_core.specs.Choices.{Chooses};
 ghost use Rattle.lb_balancer_core.specs.Balancer.{After, Drew, Judges, Stands, view_events};
 ghost use Rattle.lb_balancer_core.specs.BalancerUpdates.{IsUpdated, IsRefusal};
-ghost use Rattle.lb_balancer_core.specs.Texts.{IsOfTextsIn, IsTextsRefusalIn, one_more};
+ghost use Rattle.lb_balancer_core.specs.Texts.{IsOfTextsIn, IsTextsRefusal, one_more};
 
 use crate::lent::LentBackends;
 use crate::served::Served;
@@ -140,7 +140,7 @@ impl<S: BackendSelection, G: Rng + Drop, D: ServiceDiscovery + Drop> LoadBalance
         ensures id { IfOk result (λ b. (key_of : Member → Member) (events : List Event)
             → IsRegistryAfter R.gives key_of events registry.old → b.served.view.id ≡ registered_after events + 1) }
         ensures refused { IfErr result (λ r. (read : List (Bor (List ℕ))) × Drains I.next_gives texts read
-            × IsTextsRefusalIn R.gives registry.old read (λ members. S.refusal members S.default_config) r) }
+            × IsTextsRefusal R.gives registry.old read (λ members. S.refusal members S.default_config) r) }
         ensures err { OnErr result ((key_of : Member → Member) (events : List Event) → IsRegistryAfter R.gives key_of events registry.old
             → IsRegistryAfter R.gives key_of events registry.new
             ⊎ IsRegistryAfter R.gives key_of (Marked (registered_after events + 1) ∷ one_more events) registry.new) }

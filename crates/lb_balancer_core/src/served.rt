@@ -34,6 +34,14 @@ use std::collections::BTreeSet;
 use std::marker::Model;
 use std::sync::Arc;
 
+/// What a `Served` is made of: a view, the selector of its newest membership, and the generator of random words.
+#[derive(Drop)]
+pub struct ServedParts<S: BackendSelection, G: Drop> {
+    pub view: ViewCore,
+    pub selector: Arc<S>,
+    pub generator: G,
+}
+
 /// A view of a registry, and the selector that is served: one of the view's newest membership, with a source of words whose
 /// counter of tickets began at 0 when it was built.
 ///
@@ -186,6 +194,31 @@ impl<S: BackendSelection, G: Rng + Drop> Served<S, G> {
     {
         // For the prover alone: this shows it the view's invariant, and does nothing at run time.
         let _view = &self.view;
+    }
+
+    /// Returns what it is made of, for what serves the same in another way. Configuration, loads and counter are let go.
+    pub fn into_parts(self) -> ServedParts<S, G>
+        ensures view { result.view ≡ self.view }
+        ensures selector { (S.members (arc_value result.selector) ≡ self.members)
+            × (S.built_with (arc_value result.selector) ≡ self.config) }
+        ensures generator { result.generator ≡ self.words.generator }
+    {
+        let Served {
+            view,
+            config: _,
+            selector,
+            words,
+        } = self;
+        let CoreWords {
+            tickets: _,
+            generator,
+            loads: _,
+        } = words;
+        ServedParts {
+            view,
+            selector,
+            generator,
+        }
     }
 
     /// Returns the number of the view in its registry.
