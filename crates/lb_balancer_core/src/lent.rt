@@ -1,12 +1,12 @@
 //! The backends of a balancer, borrowed with their registry: readings, flags and checks, but no call that updates them.
-ghost use Rattle.std.specs.Prelude.{◌≡◌, ◌↔◌, ◌≤◌, ◌^◌, ◌∷◌, List, Err, IfOk, IsErrOf, IsTrue, OnOk, OnErr};
+ghost use Rattle.std.specs.Prelude.{◌≡◌, ◌↔◌, ◌∷◌, List, Err, IfOk, IsTrue, OnErr};
 ghost use Rattle.std.specs.Arc.{arc_value};
 ghost use Rattle.lb_select_base.specs.Backends.{Member};
-ghost use Rattle.lb_health_core.specs.Registry.{IsRegistryAfter, IsGrowthRefusal, targets_after};
-ghost use Rattle.lb_health_core.specs.RegistryEvents.{Event, Applied, cells_given};
+ghost use Rattle.lb_health_core.specs.Registry.{IsRegistryAfter};
+ghost use Rattle.lb_health_core.specs.RegistryEvents.{Event};
 ghost use Rattle.lb_rebuild_core.specs.SlotsHistory.{newest};
 ghost use Rattle.lb_health_view.specs.RegistrySide.{IsReady};
-ghost use Rattle.lb_health_view.specs.Passes.{Passes};
+ghost use Rattle.lb_health_view.specs.Passes.{IsPassed};
 ghost use Rattle.lb_health_view.specs.ViewEvents.{generation_after};
 ghost use Rattle.lb_rebuild_core.specs.GroupHistory as history;
 ghost use Rattle.lb_rebuild_core.specs.GroupHistory.{slot_events};
@@ -103,20 +103,9 @@ impl<'a, 'x, S: BackendSelection, G: Rng + Drop, D, R: KeyRule + Drop> LentBacke
     ) -> Result<(), Refusal>
         ensures same_references { (self.new.balancer.ghost_name ≡ self.old.balancer.ghost_name)
             × (self.new.registry.ghost_name ≡ self.old.registry.ghost_name) }
-        ensures ok { OnOk result ((key_of : Member → Member) (events : List Event)
-            → IsRegistryAfter R.gives key_of events self.old.registry.now
-            → (after : List Event)
-            × Passes (C.answers check.now) (C.threshold check.now) (targets_after key_of (Applied ∷ events)) (Applied ∷ events) after
-            × IsRegistryAfter R.gives key_of after self.new.registry.now) }
-        ensures err { OnErr result ((key_of : Member → Member) (events : List Event)
-            → IsRegistryAfter R.gives key_of events self.old.registry.now
-            → IsRegistryAfter R.gives key_of events self.new.registry.now) }
-        ensures exhausted { (key_of : Member → Member) (events : List Event)
-            → IsRegistryAfter R.gives key_of events self.old.registry.now
-            → (IsErrOf result Refusal.NumbersExhausted ↔ (2 ^ 64 ≤ cells_given key_of (Applied ∷ events))) }
-        ensures refused { OnErr result (IsGrowthRefusal result) }
+        ensures passed { IsPassed R.gives (C.answers check.now) (C.threshold check.now) self.old.registry.now result
+            self.new.registry.now }
         ensures balancer { self.new.balancer.now ≡ self.old.balancer.now }
-        ensures one { self.new.registry.now.id ≡ self.old.registry.now.id }
     {
         let registry = &mut *self.registry;
         run_health_check(rt, alloc, registry, check)
@@ -194,20 +183,9 @@ impl<'a, 'x, S: BackendSelection, D, R: KeyRule + Drop> LentGroupBackends<'a, 'x
     ) -> Result<(), Refusal>
         ensures same_references { (self.new.balancer.ghost_name ≡ self.old.balancer.ghost_name)
             × (self.new.registry.ghost_name ≡ self.old.registry.ghost_name) }
-        ensures ok { OnOk result ((key_of : Member → Member) (events : List Event)
-            → IsRegistryAfter R.gives key_of events self.old.registry.now
-            → (after : List Event)
-            × Passes (C.answers check.now) (C.threshold check.now) (targets_after key_of (Applied ∷ events)) (Applied ∷ events) after
-            × IsRegistryAfter R.gives key_of after self.new.registry.now) }
-        ensures err { OnErr result ((key_of : Member → Member) (events : List Event)
-            → IsRegistryAfter R.gives key_of events self.old.registry.now
-            → IsRegistryAfter R.gives key_of events self.new.registry.now) }
-        ensures exhausted { (key_of : Member → Member) (events : List Event)
-            → IsRegistryAfter R.gives key_of events self.old.registry.now
-            → (IsErrOf result Refusal.NumbersExhausted ↔ (2 ^ 64 ≤ cells_given key_of (Applied ∷ events))) }
-        ensures refused { OnErr result (IsGrowthRefusal result) }
+        ensures passed { IsPassed R.gives (C.answers check.now) (C.threshold check.now) self.old.registry.now result
+            self.new.registry.now }
         ensures balancer { self.new.balancer.now ≡ self.old.balancer.now }
-        ensures one { self.new.registry.now.id ≡ self.old.registry.now.id }
     {
         let registry = &mut *self.registry;
         run_health_check(rt, alloc, registry, check)

@@ -11,6 +11,7 @@ pub mod generators;
 pub mod keyed;
 pub mod lane;
 pub mod lanes;
+pub mod lending;
 pub mod loads;
 pub mod lock;
 pub mod making;
