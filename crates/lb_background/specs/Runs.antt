@@ -1,5 +1,5 @@
 -- How runs are made.
-use Rattle.std.specs.Prelude.{ℕ, Bool, true, false, Option, Some, None, if◌then◌else◌}
+use Rattle.std.specs.Prelude.{ℕ, Bool, Option, Some, None, if◌then◌else◌}
 use Rattle.lb_background.specs.Services.{ServicePlan}
 use Rattle.lb_background.specs.Turns.{Plan}
 
@@ -7,12 +7,10 @@ use Rattle.lb_background.specs.Turns.{Plan}
 abbrev pub owned : Bool → Option ℕ → Option (Option ℕ)
 owned owns frequency = if owns then Some frequency else None
 
-abbrev pub balancer_plan : Option ℕ → Option ℕ → Bool → Bool → Plan
-balancer_plan update check owns notifier =
-    record { of_group = false; update = update; check = owned owns check; notifier = notifier }
-
-abbrev pub group_plan : Option ℕ → Option ℕ → Bool → Bool → Plan
-group_plan update check owns notifier = record { of_group = true; update = update; check = owned owns check; notifier = notifier }
+-- of a balancer, or of a group
+abbrev pub turns_plan : Bool → Option ℕ → Option ℕ → Bool → Bool → Plan
+turns_plan of_group update check owns notifier =
+    record { of_group = of_group; update = update; check = owned owns check; notifier = notifier }
 
 abbrev pub service_plan : Option ℕ → Bool → Bool → ServicePlan
 service_plan frequency has_check notifier = record { check = owned has_check frequency; notifier = notifier }

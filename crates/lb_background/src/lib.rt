@@ -4,10 +4,8 @@
 #![tactic(auto)]
 
 pub mod background;
-pub mod balancer_run;
 pub mod drive;
 pub mod event;
-pub mod group_run;
 pub mod laws;
 mod line_rule;
 pub mod machine;
@@ -16,4 +14,5 @@ pub mod ready;
 pub mod service;
 pub mod service_run;
 pub mod shutdown;
+pub mod turn_run;
 mod turns;

@@ -4,12 +4,12 @@ ghost use Rattle.lb_background.specs.History.{IsAfter};
 
 use crate::balancing::Balancing;
 use crate::load_balancer::LoadBalancer;
-use lb_background::balancer_run::LoadBalancerRun;
 use lb_background::drive::drive;
 use lb_background::event::{Awaited, Event};
 use lb_background::port::RunPort;
 use lb_background::ready::ServiceReadyNotifier;
 use lb_background::shutdown::ShutdownWatch;
+use lb_background::turn_run::LoadBalancerRun;
 use lb_health_core::health_check::HealthCheck;
 use lb_health_core::keys::KeyRule;
 use lb_health_view::discovery::ServiceDiscovery;

@@ -1,10 +1,9 @@
 //! The worked rows of the runs: each event with its moment, and the action that it answers.
 use crate::asserted::assert_same;
-use lb_background::balancer_run::LoadBalancerRun;
 use lb_background::event::{Action, Event};
-use lb_background::group_run::GroupRun;
 use lb_background::machine::Machine;
 use lb_background::service_run::ServiceRun;
+use lb_background::turn_run::{GroupRun, LoadBalancerRun};
 use lb_select_base::refusal::Refusal;
 use std::process::Abort;
 
