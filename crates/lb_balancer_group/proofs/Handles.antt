@@ -28,13 +28,13 @@ module _ (T D R H C W : RattleType) (g : Selection T.Denot C.Denot W.Denot) (k :
   given = SlotConfig.the_row T C W g
 
   abbrev slot_ghosts : Selection served.Denot given.Denot W.Denot
-  slot_ghosts = chosen.ghosts T C W g no_dict no_dict no_dict no_dict no_dict
+  slot_ghosts = chosen.ghosts T C W g no_dict no_dict no_dict no_dict
 
   served_send : IsSend served
-  served_send = search (sendable, crosses, configured.the_send, s, y) depth 20
+  served_send = search (sendable, crosses, configured.the_send, s) depth 20
 
   served_sync : IsSync served
-  served_sync = search (sendable, crosses, configured.the_sync, s, y) depth 20
+  served_sync = search (sendable, crosses, configured.the_sync, y) depth 20
 
   given_send : IsSend given
   given_send = search (sendable, crosses, config.the_send, sc, yc) depth 20
