@@ -8,7 +8,6 @@ pub mod GroupUpdates
 pub mod Internal
 pub mod Lent
 pub mod Looks
-pub mod Passed
 pub mod Plain
 pub mod SlotConfigs
 pub mod Texts

@@ -1,10 +1,13 @@
 -- A pass of checks over the targets of a registry.
-use Rattle.std.specs.Prelude.{◌≡◌, ◌⊎◌, ℕ, Bool, List, [], ◌∷◌, Result, is_ok}
+use Rattle.std.specs.Prelude.{◌≡◌, ◌⊎◌, ◌↔◌, ◌≤◌, ◌^◌, ℕ, Bool, List, [], ◌∷◌, Result, is_ok, IsErrOf, OnErr, OnOk}
 use Rattle.std.specs.List.{AllByRecursion as Each}
 use Rattle.lb_health_core.specs.declared.error.CheckError.{CheckError}
 use Rattle.lb_select_base.specs.Backends.{Member}
+use Rattle.lb_select_base.specs.declared.refusal.Refusal.{Refusal}
+use Rattle.lb_select_base.specs.declared.refusal.Refusal.TheVariants.{NumbersExhausted}
 use Rattle.lb_health_core.specs.declared.targets.Target.{Target}
-use Rattle.lb_health_core.specs.RegistryEvents.{Event, Observed, IsCellKept}
+use Rattle.lb_health_core.specs.Registry.{RegistryValue, IsRegistryAfter, IsGrowthRefusal, targets_after}
+use Rattle.lb_health_core.specs.RegistryEvents.{Event, Applied, Observed, IsCellKept, cells_given}
 use Rattle.lb_health_core.specs.Verdicts.{Verdict}
 
 -- a verdict reaches a cell that is kept, and of another it does nothing
@@ -30,3 +33,18 @@ Passes answers threshold (target ∷ targets) events after =
 -- the cell of each of these targets is kept
 abbrev pub AreKept : (Member → Member) → List Target → List Event → Type 0
 AreKept key_of targets events = Each (λ t. IsCellKept key_of t.cell events) targets
+
+-- A pass over a registry, from its state before to that after, by what the check may answer and by its thresholds: the marks that wait were
+-- applied, and then the cell of each target was reached; or the pass was refused, exactly where no number is left for a cell or where memory
+-- is refused, and the registry has the history of before.
+pub record IsPassed {R : Type 0} (gives : R → Member → Member → Type 0) (answers : Answers) (threshold : Bool → ℕ)
+    (before : RegistryValue R) (result : Result Unit Refusal) (after : RegistryValue R) : Type 0 where
+  pub ok : OnOk result ((key_of : Member → Member) (events : List Event) → IsRegistryAfter gives key_of events before
+      → (later : List Event) × Passes answers threshold (targets_after key_of (Applied ∷ events)) (Applied ∷ events) later
+      × IsRegistryAfter gives key_of later after)
+  pub err : OnErr result ((key_of : Member → Member) (events : List Event) → IsRegistryAfter gives key_of events before
+      → IsRegistryAfter gives key_of events after)
+  pub exhausted : (key_of : Member → Member) (events : List Event) → IsRegistryAfter gives key_of events before
+      → (IsErrOf result NumbersExhausted ↔ (2 ^ 64 ≤ cells_given key_of (Applied ∷ events)))
+  pub refused : OnErr result (IsGrowthRefusal result)
+  pub same_registry : after.id ≡ before.id

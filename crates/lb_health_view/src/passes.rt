@@ -1,11 +1,11 @@
 //! Passes that check the targets of a registry one by one. A verdict reaches the cell of its target; where that flips, the check's
 //! observer is called, and then a line is logged.
-ghost use Rattle.std.specs.Prelude.{◌≡◌, ◌↔◌, ◌≤◌, ◌^◌, ◌∷◌, List, Result, OnOk, OnErr, IsErrOf};
+ghost use Rattle.std.specs.Prelude.{◌≡◌, List, Result};
 ghost use Rattle.lb_health_core.specs.declared.error.CheckError.{CheckError};
 ghost use Rattle.lb_select_base.specs.Backends.{Member};
-ghost use Rattle.lb_health_core.specs.Registry.{IsRegistryAfter, IsGrowthRefusal, targets_after};
-ghost use Rattle.lb_health_core.specs.RegistryEvents.{Event, Applied, cells_given};
-ghost use Rattle.lb_health_view.specs.Passes.{Reaches, Passes, AreKept, verdict_of};
+ghost use Rattle.lb_health_core.specs.Registry.{IsRegistryAfter};
+ghost use Rattle.lb_health_core.specs.RegistryEvents.{Event};
+ghost use Rattle.lb_health_view.specs.Passes.{Reaches, Passes, IsPassed, AreKept, verdict_of};
 
 use lb_health_core::error::CheckError;
 use lb_health_core::health_check::HealthCheck;
@@ -30,18 +30,7 @@ pub fn run_health_check<R: KeyRule + Drop, C: HealthCheck, L: Log>(
     registry: &mut Registry<R>,
     check: &C,
 ) -> Result<(), Refusal>
-    ensures ok { OnOk result ((key_of : Member → Member) (events : List Event)
-        → IsRegistryAfter R.gives key_of events registry.old
-        → (after : List Event)
-        × Passes (C.answers check.now) (C.threshold check.now) (targets_after key_of (Applied ∷ events)) (Applied ∷ events) after
-        × IsRegistryAfter R.gives key_of after registry.new) }
-    ensures err { OnErr result ((key_of : Member → Member) (events : List Event)
-        → IsRegistryAfter R.gives key_of events registry.old
-        → IsRegistryAfter R.gives key_of events registry.new) }
-    ensures exhausted { (key_of : Member → Member) (events : List Event) → IsRegistryAfter R.gives key_of events registry.old
-        → (IsErrOf result Refusal.NumbersExhausted ↔ (2 ^ 64 ≤ cells_given key_of (Applied ∷ events))) }
-    ensures refused { OnErr result (IsGrowthRefusal result) }
-    ensures one { registry.new.id ≡ registry.old.id }
+    ensures { IsPassed R.gives (C.answers check.now) (C.threshold check.now) registry.old result registry.new }
 {
     let targets = registry.targets(alloc)?;
     check_all(rt, alloc, registry, check, targets.as_slice());

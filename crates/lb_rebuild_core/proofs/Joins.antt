@@ -218,17 +218,6 @@ module _ {C : Type 0} where
       by-selector false true = refl
       by-selector false false = refl
 
-  -- gate, configurations and the number of the view stay
-  pub site-joined : {n : ℕ} (w z : SlotsValue C) (u t : ViewValue) (v : GroupValue C)
-      → (let parts : GroupValue C = record { group = w; view = u; registry = n }
-      in parts ≡ v)
-      → core.SameSite w z → t.id ≡ u.id → (let after : GroupValue C = record { group = z; view = t; registry = n } in SameSite v after)
-  site-joined w z u t v is same id = record {
-    group = subst (λ (x : SlotsValue C). core.SameSite x z) (ap (λ (x : GroupValue C). x.group) is) same;
-    id = id ∙ ap (λ (x : GroupValue C). x.view.id) is;
-    registry = ap (λ (x : GroupValue C). x.registry) is;
-  }
-
 module _ {S C W : Type 0} where
   -- an answer that is a job
   pub job-stands : (made : Made C) (h : slots.History) (slot now : ℕ) (a : Ask S C W) (j : Task C) (w : SlotsValue C) → a ≡ asked.Job j
