@@ -1,5 +1,5 @@
 -- The checked targets are those of the registry after its marks were applied; their cells are kept.
-use Rattle.std.proofs.Common.{◌∷◌, ◌∙◌, List, sym, subst, tt}
+use Rattle.std.proofs.Common.{◌∷◌, ◌∙◌, List, sym, subst}
 use Rattle.lb_health_core.specs.RegistryEvents.{Applied}
 use Rattle.lb_health_core.specs.declared.targets.Target.{Target}
 use Rattle.lb_health_view.specs.Passes.{Passes, AreKept}
@@ -19,7 +19,10 @@ returns g c = record {
         passed.2,
       );
   err = tt;
-  exhausted = λ key_of events r. c.in_ok-targets.ensures.exhausted key_of events r;
+  exhausted = λ key_of events r. (
+    λ clash. absurd (cc),
+    λ many. let clash = (c.in_ok-targets.ensures.exhausted key_of events r).1 many in absurd (cc),
+  );
   refused = tt;
   same_registry = c.check_all.ensures.one ∙ c.in_ok-targets.ensures.one;
 }
