@@ -1,13 +1,13 @@
 -- What a balancer does to its registry lengthens that's history.
 use Rattle.std.specs.Prelude.{Result, Ok, Err, OnOk, OnErr, List, ◌∷◌}
 use Rattle.lb_select_base.specs.Backends.{Member}
-use Rattle.lb_health_core.specs.Registry.{RegistryValue, IsRegistryAfter}
+use Rattle.lb_health_core.specs.Registry.{RegistryValue, IsRegistryAfter, KeepsHistory}
 use Rattle.lb_health_core.specs.RegistryEvents.{Event, Marked, Released}
 use Rattle.lb_health_view.specs.Views.{IsFounded, IsViewAfter}
 use Rattle.lb_health_view.specs.RegistrySide.{registry_updated}
 use Rattle.lb_health_view.specs.Snapshots.{ViewValue}
 use Rattle.lb_health_view.specs.ViewEvents.{ViewEvent, generation_after}
-use Rattle.lb_threads_core.specs.Registry.{Becomes, IsRegistryOf}
+use Rattle.lb_threads_core.specs.Registry.{IsRegistryOf}
 use Rattle.lb_threads_core.proofs.Histories.{changed, lengthened, no_more, one_more, stays}
 
 module _ {R : Type 0} {gives : R → Member → Member → Type 0} where
@@ -15,7 +15,7 @@ module _ {R : Type 0} {gives : R → Member → Member → Type 0} where
   pub renewed_later : {A E : Type 0} (r : Result A E) (v : ViewValue) (members : List Member) {x y : RegistryValue R} → IsFounded v
       → OnOk r ((key_of : Member → Member) (views : List ViewEvent) (events : List Event) → IsViewAfter views v
       → IsRegistryAfter gives key_of events x → IsRegistryAfter gives key_of (registry_updated key_of v.id members views events) y)
-      → OnErr r (Becomes gives x (λ events. events) y) → IsRegistryOf gives x y
+      → OnErr r (KeepsHistory gives x y) → IsRegistryOf gives x y
   renewed_later (Ok a) v members p ok err =
       lengthened (λ key_of events. registry_updated key_of v.id members p.0 events)
       (λ key_of events. changed key_of v.id members p.0 events)

@@ -41,6 +41,19 @@ pub record IsRegistryAfter {R : Type 0} (gives : R → Member → Member → Typ
   pub registered : r.registered ≡ registered_after events
   pub state : IsStateAfter key_of events r.views r.table
 
+module _ {R : Type 0} (gives : R → Member → Member → Type 0) where
+  -- whatever history explains a registry, by whatever function its rule is, this holds of both
+  abbrev pub HoldsOf : RegistryValue R → ((Member → Member) → List Event → Type 0) → Type 0
+  HoldsOf r Holds = (key_of : Member → Member) (events : List Event) → IsRegistryAfter gives key_of events r → Holds key_of events
+
+  -- each history of the first, grown like this, is one of the second
+  abbrev pub Grows : RegistryValue R → (List Event → List Event) → RegistryValue R → Type 0
+  Grows before grow after = HoldsOf before (λ key_of events. IsRegistryAfter gives key_of (grow events) after)
+
+  -- each history of the first is one of the second
+  abbrev pub KeepsHistory : RegistryValue R → RegistryValue R → Type 0
+  KeepsHistory before after = Grows before (λ events. events) after
+
 module _ (key_of : Member → Member) (events : List Event) where
   -- a target with its cell and its health
   abbrev pub target_at : TargetPlace × Member → Option Target

@@ -4,7 +4,7 @@ ghost use Rattle.std.specs.Prelude.{◌≡◌, ◌≢◌, ◌≤◌, ◌<◌, �
 ghost use Rattle.std.specs.List.{list_any};
 ghost use Rattle.std.specs.Ordering.{eq_by_cmp, nat_cmp};
 ghost use Rattle.lb_select_base.specs.Backends.{Member, same_member};
-ghost use Rattle.lb_health_core.specs.Registry.{IsRegistryAfter, targets_after};
+ghost use Rattle.lb_health_core.specs.Registry.{IsRegistryAfter, targets_after, HoldsOf};
 ghost use Rattle.lb_health_core.specs.RegistryEvents.{Event, Applied, Observed, Held, views_after, cell_health, cells_given};
 ghost use Rattle.lb_health_core.specs.RegistryEvents.{held_cells, holds_cell, is_released, IsCellKept};
 ghost use Rattle.lb_health_core.specs.Starts.{is_target, starts, cell_now, value_at};
@@ -66,8 +66,8 @@ pub fn kept_cells_alone_are_stored<R: KeyRule>(registry: &Registry<R>)
 ///
 /// So neither a list of targets nor a registration is ever refused for a cell's number.
 pub fn marks_start_no_cell<R: KeyRule>(registry: &Registry<R>)
-    ensures { (key_of : Member → Member) (events : List Event) → IsRegistryAfter R.gives key_of events registry.now
-        → (cells_given key_of (Applied ∷ events) ≡ cells_given key_of events) × (cells_given key_of events < 2 ^ 64) }
+    ensures { HoldsOf R.gives registry.now (λ key_of events. (cells_given key_of (Applied ∷ events) ≡ cells_given key_of events)
+        × (cells_given key_of events < 2 ^ 64)) }
 {}
 
 /// Each target has a cell, so that the list of targets leaves none out.

@@ -7,7 +7,8 @@ ghost use Rattle.std.specs.Option.{option_map};
 ghost use Rattle.lb_select_base.specs.Backends.{Member, member_cmp, same_member};
 ghost use Rattle.lb_health_core.specs.Fresh.{has_key};
 ghost use Rattle.lb_health_core.specs.Keys.{by_identity, by_address, IsRuleOf};
-ghost use Rattle.lb_health_core.specs.Registry.{HasOwnCells, IsRegistryAfter, target_at, targets_after, IsGrowthRefusal};
+ghost use Rattle.lb_health_core.specs.Registry.{HasOwnCells, IsRegistryAfter, target_at, targets_after};
+ghost use Rattle.lb_health_core.specs.Registry.{IsGrowthRefusal, HoldsOf, Grows, KeepsHistory};
 ghost use Rattle.lb_health_core.specs.Registry.{IsUpdateRefusal};
 ghost use Rattle.lb_health_core.specs.RegistryEvents.{Event, Registered, Applied, Updated, Marked, Observed, Released, Configured};
 ghost use Rattle.lb_health_core.specs.RegistryEvents.{has_view, registered_after, views_after, after_update, after_show};
@@ -123,8 +124,7 @@ impl<R: KeyRule + Drop> Registry<R> {
 
     /// Returns the registry with cells that begin unhealthy from now on; those that are there stay. It takes no memory.
     pub fn start_unhealthy(mut self) -> Registry<R>
-        ensures after { (key_of : Member → Member) (events : List Event) → IsRegistryAfter R.gives key_of events self
-            → IsRegistryAfter R.gives key_of (Configured false ∷ events) result }
+        ensures after { Grows R.gives self (λ events. Configured false ∷ events) result }
         ensures one { result.id ≡ self.id }
     {
         self.table.configure(false);
@@ -140,15 +140,11 @@ impl<R: KeyRule + Drop> Registry<R> {
     /// `NumbersExhausted` where 18446744073709551615 views were registered, whatever memory is left; `OutOfMemory` where memory
     /// is refused.
     pub fn register_view(&mut self, alloc: Global) -> Result<u64, Refusal>
-        ensures ok { OnOk result ((key_of : Member → Member) (events : List Event) → IsRegistryAfter R.gives key_of events self.old
-            → IsRegistryAfter R.gives key_of (Applied ∷ Registered ∷ events) self.new) }
-        ensures number { IfOk result (λ id. (key_of : Member → Member) (events : List Event)
-            → IsRegistryAfter R.gives key_of events self.old
-            → id ≡ registered_after events + 1) }
-        ensures err { OnErr result ((key_of : Member → Member) (events : List Event) → IsRegistryAfter R.gives key_of events self.old
-            → IsRegistryAfter R.gives key_of events self.new) }
-        ensures exhausted { (key_of : Member → Member) (events : List Event) → IsRegistryAfter R.gives key_of events self.old
-            → (IsErrOf result Refusal.NumbersExhausted ↔ (2 ^ 64 ≤ registered_after events + 1)) }
+        ensures ok { OnOk result (Grows R.gives self.old (λ events. Applied ∷ Registered ∷ events) self.new) }
+        ensures number { IfOk result (λ id. HoldsOf R.gives self.old (λ key_of events. id ≡ registered_after events + 1)) }
+        ensures err { OnErr result (KeepsHistory R.gives self.old self.new) }
+        ensures exhausted { HoldsOf R.gives self.old (λ key_of events. IsErrOf result Refusal.NumbersExhausted
+            ↔ (2 ^ 64 ≤ registered_after events + 1)) }
         ensures refused { OnErr result (IsGrowthRefusal result) }
         ensures one { self.new.id ≡ self.old.id }
     {
@@ -177,8 +173,7 @@ impl<R: KeyRule + Drop> Registry<R> {
     ///
     /// It takes no memory.
     pub fn is_full(&self) -> bool
-        ensures { (key_of : Member → Member) (events : List Event) → IsRegistryAfter R.gives key_of events self.now
-            → (IsTrue result ↔ (2 ^ 64 ≤ registered_after events + 1)) }
+        ensures { HoldsOf R.gives self.now (λ key_of events. IsTrue result ↔ (2 ^ 64 ≤ registered_after events + 1)) }
     {
         self.registered == u64::MAX
     }
@@ -187,17 +182,15 @@ impl<R: KeyRule + Drop> Registry<R> {
     ///
     /// It takes no memory.
     pub fn lacks_numbers(&self, members: &BTreeSet<Backend>) -> bool
-        ensures { (key_of : Member → Member) (events : List Event) (id : ℕ) → IsRegistryAfter R.gives key_of events self.now
-            → has_view id (views_after events) ≡ true
-            → (IsTrue result ↔ (2 ^ 64 ≤ cells_given key_of (Updated id members.now.keys ∷ Applied ∷ events))) }
+        ensures { HoldsOf R.gives self.now (λ key_of events. (id : ℕ) → has_view id (views_after events) ≡ true → (IsTrue result
+            ↔ (2 ^ 64 ≤ cells_given key_of (Updated id members.now.keys ∷ Applied ∷ events)))) }
     {
         lacks_numbers(&self.rule, &self.views, members, self.table.numbering.next)
     }
 
     /// Returns how many numbers are left for cells, without taking memory.
     pub fn numbers_left(&self) -> u64
-        ensures { (key_of : Member → Member) (events : List Event) → IsRegistryAfter R.gives key_of events self.now
-            → result + cells_given key_of events + 1 ≡ 2 ^ 64 }
+        ensures { HoldsOf R.gives self.now (λ key_of events. result + cells_given key_of events + 1 ≡ 2 ^ 64) }
     {
         u64::MAX - self.table.numbering.next
     }
@@ -206,8 +199,7 @@ impl<R: KeyRule + Drop> Registry<R> {
     ///
     /// It takes no memory.
     pub fn has_key(&self, backend: &Backend) -> bool
-        ensures { (key_of : Member → Member) (events : List Event) → IsRegistryAfter R.gives key_of events self.now
-            → result ≡ has_key key_of (live (views_after events)) (key_of backend.now) }
+        ensures { HoldsOf R.gives self.now (λ key_of events. result ≡ has_key key_of (live (views_after events)) (key_of backend.now)) }
     {
         is_taken(&self.rule, &self.views, backend)
     }
@@ -216,8 +208,7 @@ impl<R: KeyRule + Drop> Registry<R> {
     ///
     /// It takes no memory.
     pub fn same_key(&self, backend: &Backend, other: &Backend) -> bool
-        ensures { (key_of : Member → Member) (events : List Event) → IsRegistryAfter R.gives key_of events self.now
-            → result ≡ same_member (key_of backend.now) (key_of other.now) }
+        ensures { HoldsOf R.gives self.now (λ key_of events. result ≡ same_member (key_of backend.now) (key_of other.now)) }
     {
         self.rule.same(backend, other)
     }
@@ -226,8 +217,7 @@ impl<R: KeyRule + Drop> Registry<R> {
     ///
     /// It takes no memory.
     pub fn has_view(&self, id: u64) -> bool
-        ensures { (key_of : Member → Member) (events : List Event) → IsRegistryAfter R.gives key_of events self.now
-            → result ≡ has_view id (views_after events) }
+        ensures { HoldsOf R.gives self.now (λ key_of events. result ≡ has_view id (views_after events)) }
     {
         match place_of(&self.views, id) {
             Some(_) => true,
@@ -249,15 +239,12 @@ impl<R: KeyRule + Drop> Registry<R> {
         id: u64,
         members: BTreeSet<Backend>,
     ) -> Result<(), Refusal>
-        ensures ok { OnOk result ((key_of : Member → Member) (events : List Event) → IsRegistryAfter R.gives key_of events self.old
-            → IsRegistryAfter R.gives key_of (after_update id members.keys events) self.new) }
-        ensures err { OnErr result ((key_of : Member → Member) (events : List Event) → IsRegistryAfter R.gives key_of events self.old
-            → IsRegistryAfter R.gives key_of events self.new) }
-        ensures unknown { (key_of : Member → Member) (events : List Event) → IsRegistryAfter R.gives key_of events self.old
-            → (IsErrOf result Refusal.NoSuch ↔ (has_view id (views_after events) ≡ false)) }
-        ensures exhausted { (key_of : Member → Member) (events : List Event) → IsRegistryAfter R.gives key_of events self.old
-            → has_view id (views_after events) ≡ true
-            → (IsErrOf result Refusal.NumbersExhausted ↔ (2 ^ 64 ≤ cells_given key_of (after_update id members.keys events))) }
+        ensures ok { OnOk result (Grows R.gives self.old (λ events. after_update id members.keys events) self.new) }
+        ensures err { OnErr result (KeepsHistory R.gives self.old self.new) }
+        ensures unknown { HoldsOf R.gives self.old (λ key_of events. IsErrOf result Refusal.NoSuch
+            ↔ (has_view id (views_after events) ≡ false)) }
+        ensures exhausted { HoldsOf R.gives self.old (λ key_of events. has_view id (views_after events) ≡ true
+            → (IsErrOf result Refusal.NumbersExhausted ↔ (2 ^ 64 ≤ cells_given key_of (after_update id members.keys events)))) }
         ensures refused { OnErr result (IsUpdateRefusal result) }
         ensures one { self.new.id ≡ self.old.id }
     {
@@ -296,19 +283,15 @@ impl<R: KeyRule + Drop> Registry<R> {
         generation: u64,
         members: BTreeSet<Backend>,
     ) -> Result<BTreeMap<Backend, u64>, Refusal>
-        ensures ok { OnOk result ((key_of : Member → Member) (events : List Event) → IsRegistryAfter R.gives key_of events self.old
-            → IsRegistryAfter R.gives key_of (after_show id generation members.keys events) self.new) }
-        ensures cells { IfOk result (λ cells. (key_of : Member → Member) (events : List Event)
-            → IsRegistryAfter R.gives key_of events self.old
-            → cells.entries ≡ shown_cells key_of id members.keys events) }
+        ensures ok { OnOk result (Grows R.gives self.old (λ events. after_show id generation members.keys events) self.new) }
+        ensures cells { IfOk result (λ cells. HoldsOf R.gives self.old (λ key_of events. cells.entries
+            ≡ shown_cells key_of id members.keys events)) }
         ensures own { IfOk result (λ cells. HasOwnCells members.keys cells.entries) }
-        ensures err { OnErr result ((key_of : Member → Member) (events : List Event) → IsRegistryAfter R.gives key_of events self.old
-            → IsRegistryAfter R.gives key_of events self.new) }
-        ensures unknown { (key_of : Member → Member) (events : List Event) → IsRegistryAfter R.gives key_of events self.old
-            → (IsErrOf result Refusal.NoSuch ↔ (has_view id (views_after events) ≡ false)) }
-        ensures exhausted { (key_of : Member → Member) (events : List Event) → IsRegistryAfter R.gives key_of events self.old
-            → has_view id (views_after events) ≡ true
-            → (IsErrOf result Refusal.NumbersExhausted ↔ (2 ^ 64 ≤ cells_given key_of (Updated id members.keys ∷ Applied ∷ events))) }
+        ensures err { OnErr result (KeepsHistory R.gives self.old self.new) }
+        ensures unknown { HoldsOf R.gives self.old (λ key_of events. IsErrOf result Refusal.NoSuch
+            ↔ (has_view id (views_after events) ≡ false)) }
+        ensures exhausted { HoldsOf R.gives self.old (λ key_of events. has_view id (views_after events) ≡ true
+            → (IsErrOf result Refusal.NumbersExhausted ↔ (2 ^ 64 ≤ cells_given key_of (Updated id members.keys ∷ Applied ∷ events)))) }
         ensures refused { OnErr result (IsUpdateRefusal result) }
         ensures one { self.new.id ≡ self.old.id }
     {
@@ -337,8 +320,7 @@ impl<R: KeyRule + Drop> Registry<R> {
 
     /// Ends the life of a view's snapshot of a generation. It takes no memory.
     pub fn release(&mut self, id: u64, generation: u64)
-        ensures after { (key_of : Member → Member) (events : List Event) → IsRegistryAfter R.gives key_of events self.old
-            → IsRegistryAfter R.gives key_of (Released id generation ∷ events) self.new }
+        ensures after { Grows R.gives self.old (λ events. Released id generation ∷ events) self.new }
         ensures one { self.new.id ≡ self.old.id }
     {
         self.table.release(id, generation);
@@ -358,8 +340,7 @@ impl<R: KeyRule + Drop> Registry<R> {
     ///
     /// A view that isn't there or has a mark stays so. It takes no memory.
     pub fn remove_view(&mut self, id: u64)
-        ensures after { (key_of : Member → Member) (events : List Event) → IsRegistryAfter R.gives key_of events self.old
-            → IsRegistryAfter R.gives key_of (Marked id ∷ events) self.new }
+        ensures after { Grows R.gives self.old (λ events. Marked id ∷ events) self.new }
         ensures one { self.new.id ≡ self.old.id }
     {
         if let Some(place) = place_of(&self.views, id) {
@@ -375,14 +356,12 @@ impl<R: KeyRule + Drop> Registry<R> {
     ///
     /// `NoSuch` where the cell isn't kept.
     pub fn observe(&mut self, cell: u64, verdict: bool, threshold: usize) -> Result<bool, Refusal>
-        ensures after { OnOk result ((key_of : Member → Member) (events : List Event) → IsRegistryAfter R.gives key_of events self.old
-            → IsRegistryAfter R.gives key_of (Observed cell (record { ok = verdict; threshold = threshold }) ∷ events) self.new) }
-        ensures flipped { IfOk result (λ flipped. (key_of : Member → Member) (events : List Event)
-            → IsRegistryAfter R.gives key_of events self.old
-            → (IsTrue flipped ↔ (cell_health key_of cell (Observed cell (record { ok = verdict; threshold = threshold }) ∷ events)
+        ensures after { OnOk result (Grows R.gives self.old (λ events. Observed cell
+            (record { ok = verdict; threshold = threshold }) ∷ events) self.new) }
+        ensures flipped { IfOk result (λ flipped. HoldsOf R.gives self.old (λ key_of events. IsTrue flipped
+            ↔ (cell_health key_of cell (Observed cell (record { ok = verdict; threshold = threshold }) ∷ events)
             ≢ cell_health key_of cell events))) }
-        ensures kept { (key_of : Member → Member) (events : List Event) → IsRegistryAfter R.gives key_of events self.old
-            → (IsOk result ↔ IsCellKept key_of cell events) }
+        ensures kept { HoldsOf R.gives self.old (λ key_of events. IsOk result ↔ IsCellKept key_of cell events) }
         ensures refused { OnErr result ((result ≡ Err Refusal.NoSuch) × (self.new ≡ self.old)) }
         ensures one { self.new.id ≡ self.old.id }
     {
@@ -391,8 +370,8 @@ impl<R: KeyRule + Drop> Registry<R> {
 
     /// Returns whether a cell is kept and healthy, without taking memory.
     pub fn cell_ready(&self, cell: u64) -> bool
-        ensures { (key_of : Member → Member) (events : List Event) → IsRegistryAfter R.gives key_of events self.now
-            → (IsTrue result ↔ (IsCellKept key_of cell events × (cell_health key_of cell events ≡ true))) }
+        ensures { HoldsOf R.gives self.now (λ key_of events. IsTrue result ↔ (IsCellKept key_of cell events
+            × (cell_health key_of cell events ≡ true))) }
     {
         self.table.cell_ready(cell)
     }
@@ -405,15 +384,12 @@ impl<R: KeyRule + Drop> Registry<R> {
     ///
     /// `OutOfMemory` where memory is refused. Marks that are applied start no cell, so a number is always left.
     pub fn target_count(&mut self, alloc: Global) -> Result<usize, Refusal>
-        ensures ok { OnOk result ((key_of : Member → Member) (events : List Event) → IsRegistryAfter R.gives key_of events self.old
-            → IsRegistryAfter R.gives key_of (Applied ∷ events) self.new) }
-        ensures count { IfOk result (λ count. (key_of : Member → Member) (events : List Event)
-            → IsRegistryAfter R.gives key_of events self.old
-            → count ≡ length (target_keys key_of (views_after (Applied ∷ events)))) }
-        ensures err { OnErr result ((key_of : Member → Member) (events : List Event) → IsRegistryAfter R.gives key_of events self.old
-            → IsRegistryAfter R.gives key_of events self.new) }
-        ensures exhausted { (key_of : Member → Member) (events : List Event) → IsRegistryAfter R.gives key_of events self.old
-            → (IsErrOf result Refusal.NumbersExhausted ↔ (2 ^ 64 ≤ cells_given key_of (Applied ∷ events))) }
+        ensures ok { OnOk result (Grows R.gives self.old (λ events. Applied ∷ events) self.new) }
+        ensures count { IfOk result (λ count. HoldsOf R.gives self.old (λ key_of events. count
+            ≡ length (target_keys key_of (views_after (Applied ∷ events))))) }
+        ensures err { OnErr result (KeepsHistory R.gives self.old self.new) }
+        ensures exhausted { HoldsOf R.gives self.old (λ key_of events. IsErrOf result Refusal.NumbersExhausted
+            ↔ (2 ^ 64 ≤ cells_given key_of (Applied ∷ events))) }
         ensures refused { OnErr result (IsGrowthRefusal result) }
         ensures one { self.new.id ≡ self.old.id }
     {
@@ -427,15 +403,12 @@ impl<R: KeyRule + Drop> Registry<R> {
     ///
     /// Those of `target_count`.
     pub fn targets(&mut self, alloc: Global) -> Result<Vec<Target>, Refusal>
-        ensures ok { OnOk result ((key_of : Member → Member) (events : List Event) → IsRegistryAfter R.gives key_of events self.old
-            → IsRegistryAfter R.gives key_of (Applied ∷ events) self.new) }
-        ensures targets { IfOk result (λ targets. (key_of : Member → Member) (events : List Event)
-            → IsRegistryAfter R.gives key_of events self.old
-            → targets.items ≡ targets_after key_of (Applied ∷ events)) }
-        ensures err { OnErr result ((key_of : Member → Member) (events : List Event) → IsRegistryAfter R.gives key_of events self.old
-            → IsRegistryAfter R.gives key_of events self.new) }
-        ensures exhausted { (key_of : Member → Member) (events : List Event) → IsRegistryAfter R.gives key_of events self.old
-            → (IsErrOf result Refusal.NumbersExhausted ↔ (2 ^ 64 ≤ cells_given key_of (Applied ∷ events))) }
+        ensures ok { OnOk result (Grows R.gives self.old (λ events. Applied ∷ events) self.new) }
+        ensures targets { IfOk result (λ targets. HoldsOf R.gives self.old (λ key_of events. targets.items
+            ≡ targets_after key_of (Applied ∷ events))) }
+        ensures err { OnErr result (KeepsHistory R.gives self.old self.new) }
+        ensures exhausted { HoldsOf R.gives self.old (λ key_of events. IsErrOf result Refusal.NumbersExhausted
+            ↔ (2 ^ 64 ≤ cells_given key_of (Applied ∷ events))) }
         ensures refused { OnErr result (IsGrowthRefusal result) }
         ensures one { self.new.id ≡ self.old.id }
     {

@@ -6,7 +6,7 @@ use Rattle.lb_select_base.specs.Backends.{Member}
 use Rattle.lb_select_base.specs.declared.refusal.Refusal.{Refusal}
 use Rattle.lb_select_base.specs.declared.refusal.Refusal.TheVariants.{NumbersExhausted}
 use Rattle.lb_health_core.specs.declared.targets.Target.{Target}
-use Rattle.lb_health_core.specs.Registry.{RegistryValue, IsRegistryAfter, IsGrowthRefusal, targets_after}
+use Rattle.lb_health_core.specs.Registry.{RegistryValue, IsRegistryAfter, IsGrowthRefusal, targets_after, HoldsOf, KeepsHistory}
 use Rattle.lb_health_core.specs.RegistryEvents.{Event, Applied, Observed, IsCellKept, cells_given}
 use Rattle.lb_health_core.specs.Verdicts.{Verdict}
 
@@ -39,12 +39,10 @@ AreKept key_of targets events = Each (λ t. IsCellKept key_of t.cell events) tar
 -- is refused, and the registry has the history of before.
 pub record IsPassed {R : Type 0} (gives : R → Member → Member → Type 0) (answers : Answers) (threshold : Bool → ℕ)
     (before : RegistryValue R) (result : Result Unit Refusal) (after : RegistryValue R) : Type 0 where
-  pub ok : OnOk result ((key_of : Member → Member) (events : List Event) → IsRegistryAfter gives key_of events before
-      → (later : List Event) × Passes answers threshold (targets_after key_of (Applied ∷ events)) (Applied ∷ events) later
-      × IsRegistryAfter gives key_of later after)
-  pub err : OnErr result ((key_of : Member → Member) (events : List Event) → IsRegistryAfter gives key_of events before
-      → IsRegistryAfter gives key_of events after)
-  pub exhausted : (key_of : Member → Member) (events : List Event) → IsRegistryAfter gives key_of events before
-      → (IsErrOf result NumbersExhausted ↔ (2 ^ 64 ≤ cells_given key_of (Applied ∷ events)))
+  pub ok : OnOk result (HoldsOf gives before (λ key_of events. (later : List Event)
+      × Passes answers threshold (targets_after key_of (Applied ∷ events)) (Applied ∷ events) later
+      × IsRegistryAfter gives key_of later after))
+  pub err : OnErr result (KeepsHistory gives before after)
+  pub exhausted : HoldsOf gives before (λ key_of events. IsErrOf result NumbersExhausted ↔ (2 ^ 64 ≤ cells_given key_of (Applied ∷ events)))
   pub refused : OnErr result (IsGrowthRefusal result)
   pub same_registry : after.id ≡ before.id

@@ -2,7 +2,8 @@
 use Rattle.std.specs.Prelude.{◌≡◌, ◌⊎◌, Bool, true, List, IsSome, Some, None, Result, Err}
 use Rattle.lb_select_base.specs.declared.refusal.Refusal.{Refusal}
 use Rattle.lb_select_base.specs.declared.refusal.Refusal.TheVariants.{GenerationsExhausted}
-use Rattle.lb_health_core.specs.Registry.{IsUpdateRefusal}
+use Rattle.lb_health_core.specs.Registry.{IsRegistryAfter, IsUpdateRefusal, RegistryValue}
+use Rattle.lb_health_core.specs.RegistryEvents.{Event}
 use Rattle.lb_select_base.specs.Backends.{Member}
 use Rattle.lb_health_view.specs.Snapshots.{ViewValue, value_at}
 use Rattle.lb_health_view.specs.ViewEvents.{ViewEvent, generation_after, snapshots_after, listed, flag_after}
@@ -26,3 +27,10 @@ IsViewRefusal r = (r ≡ Err GenerationsExhausted) ⊎ IsUpdateRefusal r
 -- some history explains the view
 abbrev pub IsFounded : ViewValue → Type 0
 IsFounded v = (views : List ViewEvent) × IsViewAfter views v
+
+-- whatever histories explain a view and a registry, by whatever function the registry's rule is, this holds of all three
+abbrev pub HoldsOfBoth : {R : Type 0} → (R → Member → Member → Type 0) → ViewValue → RegistryValue R
+    → ((Member → Member) → List ViewEvent → List Event → Type 0) → Type 0
+HoldsOfBoth gives view registry Holds =
+    (key_of : Member → Member) (views : List ViewEvent) (events : List Event) → IsViewAfter views view
+    → IsRegistryAfter gives key_of events registry → Holds key_of views events

@@ -2,8 +2,7 @@
 //! observer is called, and then a line is logged.
 ghost use Rattle.std.specs.Prelude.{◌≡◌, List, Result};
 ghost use Rattle.lb_health_core.specs.declared.error.CheckError.{CheckError};
-ghost use Rattle.lb_select_base.specs.Backends.{Member};
-ghost use Rattle.lb_health_core.specs.Registry.{IsRegistryAfter};
+ghost use Rattle.lb_health_core.specs.Registry.{IsRegistryAfter, HoldsOf};
 ghost use Rattle.lb_health_core.specs.RegistryEvents.{Event};
 ghost use Rattle.lb_health_view.specs.Passes.{Reaches, Passes, IsPassed, AreKept, verdict_of};
 
@@ -45,10 +44,9 @@ fn check_all<R: KeyRule + Drop, C: HealthCheck, L: Log>(
     check: &C,
     targets: &[Target],
 )
-    ensures after { (key_of : Member → Member) (events : List Event) → IsRegistryAfter R.gives key_of events registry.old
-        → AreKept key_of targets.now events
-        → (after : List Event) × Passes (C.answers check.now) (C.threshold check.now) targets.now events after
-        × IsRegistryAfter R.gives key_of after registry.new }
+    ensures after { HoldsOf R.gives registry.old (λ key_of events. AreKept key_of targets.now events → (after : List Event)
+        × Passes (C.answers check.now) (C.threshold check.now) targets.now events after
+        × IsRegistryAfter R.gives key_of after registry.new) }
     ensures one { registry.new.id ≡ registry.old.id }
 {
     for target in targets {
@@ -64,10 +62,10 @@ fn check_one<R: KeyRule + Drop, C: HealthCheck, L: Log>(
     check: &C,
     target: &Target,
 )
-    ensures after { (key_of : Member → Member) (events : List Event) → IsRegistryAfter R.gives key_of events registry.old
-        → (answer : Result Unit CheckError) × C.answers check.now target.now.backend answer × (after : List Event)
+    ensures after { HoldsOf R.gives registry.old (λ key_of events. (answer : Result Unit CheckError)
+        × C.answers check.now target.now.backend answer × (after : List Event)
         × Reaches key_of target.now.cell (verdict_of (C.threshold check.now) answer) events after
-        × IsRegistryAfter R.gives key_of after registry.new }
+        × IsRegistryAfter R.gives key_of after registry.new) }
     ensures one { registry.new.id ≡ registry.old.id }
 {
     let verdict = check.check(alloc, &target.backend);

@@ -12,12 +12,12 @@ ghost use Rattle.lb_select_base.specs.Memberships.{same_members};
 ghost use Rattle.lb_health_view.specs.Snapshots.{held_less, at_generation, living, flags_listed, value_at, snapshot_of, IfHead};
 ghost use Rattle.lb_health_view.specs.ViewEvents.{ViewEvent, Shown, Held, Released, Set, generation_after, membership_after, listed};
 ghost use Rattle.lb_health_view.specs.ViewEvents.{flag_after};
-ghost use Rattle.lb_health_view.specs.Views.{IsViewAfter, Flags, IsViewRefusal};
+ghost use Rattle.lb_health_view.specs.Views.{IsViewAfter, Flags, IsViewRefusal, HoldsOfBoth};
 ghost use Rattle.lb_health_view.specs.RegistrySide.{lives, registry_released, settings_of, after_settings, with_membership, view_changed};
 ghost use Rattle.lb_health_view.specs.RegistrySide.{registry_changed};
 ghost use Rattle.lb_health_view.specs.RegistrySide.{view_updated, registry_updated, IsHealthyIn, IsReadyIn, IsReady};
-ghost use Rattle.lb_health_core.specs.Registry.{HasOwnCells, IsRegistryAfter, IsGrowthRefusal};
-ghost use Rattle.lb_health_core.specs.RegistryEvents.{Event, Registered, Updated, Applied, registered_after, has_view, views_after};
+ghost use Rattle.lb_health_core.specs.Registry.{HasOwnCells, IsRegistryAfter, IsGrowthRefusal, HoldsOf, Grows, KeepsHistory};
+ghost use Rattle.lb_health_core.specs.RegistryEvents.{Registered, Updated, Applied, registered_after, has_view, views_after};
 ghost use Rattle.lb_health_core.specs.RegistryEvents.{cells_given};
 
 use crate::cells::Cells;
@@ -103,15 +103,11 @@ impl ViewCore {
         registry: &mut Registry<R>,
     ) -> Result<ViewCore, Refusal>
         ensures made { IfOk result (λ v. IsViewAfter [] v) }
-        ensures id { IfOk result (λ v. (key_of : Member → Member) (events : List Event) → IsRegistryAfter R.gives key_of events registry.old
-            → v.id ≡ registered_after events + 1) }
-        ensures registry { OnOk result ((key_of : Member → Member) (events : List Event)
-            → IsRegistryAfter R.gives key_of events registry.old
-            → IsRegistryAfter R.gives key_of (Applied ∷ Registered ∷ events) registry.new) }
-        ensures err { OnErr result ((key_of : Member → Member) (events : List Event) → IsRegistryAfter R.gives key_of events registry.old
-            → IsRegistryAfter R.gives key_of events registry.new) }
-        ensures exhausted { (key_of : Member → Member) (events : List Event) → IsRegistryAfter R.gives key_of events registry.old
-            → (IsErrOf result Refusal.NumbersExhausted ↔ (2 ^ 64 ≤ registered_after events + 1)) }
+        ensures id { IfOk result (λ v. HoldsOf R.gives registry.old (λ key_of events. v.id ≡ registered_after events + 1)) }
+        ensures registry { OnOk result (Grows R.gives registry.old (λ events. Applied ∷ Registered ∷ events) registry.new) }
+        ensures err { OnErr result (KeepsHistory R.gives registry.old registry.new) }
+        ensures exhausted { HoldsOf R.gives registry.old (λ key_of events. IsErrOf result Refusal.NumbersExhausted
+            ↔ (2 ^ 64 ≤ registered_after events + 1)) }
         ensures refused { OnErr result (IsGrowthRefusal result) }
         ensures one_registry { registry.new.id ≡ registry.old.id }
     {
@@ -248,9 +244,8 @@ impl ViewCore {
     /// backends that none lists any more are forgotten. It takes no memory.
     pub fn release<R: KeyRule + Drop>(&mut self, registry: &mut Registry<R>, generation: u64)
         ensures view { (views : List ViewEvent) → IsViewAfter views self.old → IsViewAfter (Released generation ∷ views) self.new }
-        ensures registry { (key_of : Member → Member) (views : List ViewEvent) (events : List Event) → IsViewAfter views self.old
-            → IsRegistryAfter R.gives key_of events registry.old
-            → IsRegistryAfter R.gives key_of (registry_released self.old.id generation views events) registry.new }
+        ensures registry { HoldsOfBoth R.gives self.old registry.old (λ key_of views events. IsRegistryAfter R.gives key_of
+            (registry_released self.old.id generation views events) registry.new) }
         ensures id { self.new.id ≡ self.old.id }
         ensures one_registry { registry.new.id ≡ registry.old.id }
     {
@@ -265,9 +260,8 @@ impl ViewCore {
     ///
     /// It takes no memory.
     pub fn ready<R: KeyRule + Drop>(&self, registry: &Registry<R>, backend: &Backend) -> bool
-        ensures { (key_of : Member → Member) (views : List ViewEvent) (events : List Event) → IsViewAfter views self.now
-            → IsRegistryAfter R.gives key_of events registry.now
-            → (IsTrue result ↔ IsReady key_of views events (generation_after views) backend.now) }
+        ensures { HoldsOfBoth R.gives self.now registry.now (λ key_of views events. IsTrue result
+            ↔ IsReady key_of views events (generation_after views) backend.now) }
     {
         self.ready_in(registry, self.current.generation, backend)
     }
@@ -281,9 +275,8 @@ impl ViewCore {
         generation: u64,
         backend: &Backend,
     ) -> bool
-        ensures { (key_of : Member → Member) (views : List ViewEvent) (events : List Event) → IsViewAfter views self.now
-            → IsRegistryAfter R.gives key_of events registry.now
-            → (IsTrue result ↔ IsReady key_of views events generation backend.now) }
+        ensures { HoldsOfBoth R.gives self.now registry.now (λ key_of views events. IsTrue result
+            ↔ IsReady key_of views events generation backend.now) }
     {
         if self.current.generation == generation {
             return self.is_ready(registry, &self.current, backend);
@@ -301,11 +294,9 @@ impl ViewCore {
         snapshot: &ViewSnapshot,
         backend: &Backend,
     ) -> bool
-        ensures { (key_of : Member → Member) (views : List ViewEvent) (events : List Event) → IsViewAfter views self.now
-            → IsRegistryAfter R.gives key_of events registry.now
-            → HasOwnCells (snapshot_of snapshot.now).members (snapshot_of snapshot.now).cells
-            → (list_any (same_member backend.now) (snapshot_of snapshot.now).members ≡ true → listed views backend.now ≡ true)
-            → (IsTrue result ↔ IsReadyIn key_of views events backend.now (snapshot_of snapshot.now)) }
+        ensures { HoldsOfBoth R.gives self.now registry.now (λ key_of views events. HasOwnCells (snapshot_of snapshot.now).members
+            (snapshot_of snapshot.now).cells → (list_any (same_member backend.now) (snapshot_of snapshot.now).members ≡ true
+            → listed views backend.now ≡ true) → (IsTrue result ↔ IsReadyIn key_of views events backend.now (snapshot_of snapshot.now))) }
     {
         // The cells are those of members alone, so one search finds both.
         if !is_healthy(registry, snapshot, backend) {
@@ -333,13 +324,10 @@ impl ViewCore {
         changed: F,
     ) -> Result<Option<T>, Refusal>
         requires { F.IsAlwaysCallable changed }
-        ensures view { OnOk result ((key_of : Member → Member) (views : List ViewEvent) (events : List Event) → IsViewAfter views self.old
-            → IsRegistryAfter R.gives key_of events registry.old
-            → IsViewAfter (view_updated key_of self.old.id discovered.keys (settings_of settings.entries) events views) self.new) }
-        ensures registry { OnOk result ((key_of : Member → Member) (views : List ViewEvent) (events : List Event)
-            → IsViewAfter views self.old
-            → IsRegistryAfter R.gives key_of events registry.old
-            → IsRegistryAfter R.gives key_of (registry_updated key_of self.old.id discovered.keys views events) registry.new) }
+        ensures view { OnOk result (HoldsOfBoth R.gives self.old registry.old (λ key_of views events. IsViewAfter
+            (view_updated key_of self.old.id discovered.keys (settings_of settings.entries) events views) self.new)) }
+        ensures registry { OnOk result (HoldsOfBoth R.gives self.old registry.old (λ key_of views events. IsRegistryAfter R.gives key_of
+            (registry_updated key_of self.old.id discovered.keys views events) registry.new)) }
         ensures some { OnOk result ((cells : List (Member × ℕ)) × ((views : List ViewEvent) → IsViewAfter views self.old
             → IsViewAfter (after_settings (settings_of settings.entries) (with_membership discovered.keys cells views)) self.new)) }
         ensures called { IfOk result (λ answer. (views : List ViewEvent) → IsViewAfter views self.old
@@ -350,9 +338,7 @@ impl ViewCore {
             (λ t. (self.new.generation ≡ self.old.generation + 1) × IfHead self.new.snapshots (λ s. (set : BTreeSet Member Global)
             × (set.keys ≡ s.members) × FnOnceReturnsAt F.FnOnce changed set t))) }
         ensures view_err { OnErr result ((views : List ViewEvent) → IsViewAfter views self.old → IsViewAfter views self.new) }
-        ensures registry_err { OnErr result ((key_of : Member → Member) (events : List Event)
-            → IsRegistryAfter R.gives key_of events registry.old
-            → IsRegistryAfter R.gives key_of events registry.new) }
+        ensures registry_err { OnErr result (KeepsHistory R.gives registry.old registry.new) }
         ensures same { (views : List ViewEvent) → IsViewAfter views self.old
             → same_members discovered.keys (membership_after views) ≡ true → IsOk result }
         ensures exhausted { (views : List ViewEvent) → IsViewAfter views self.old
@@ -360,19 +346,18 @@ impl ViewCore {
             → result ≡ Err Refusal.GenerationsExhausted }
         ensures last { IsErrOf result Refusal.GenerationsExhausted → (views : List ViewEvent) → IsViewAfter views self.old
             → generation_after views + 1 ≡ 2 ^ 64 }
-        ensures missing { (key_of : Member → Member) (views : List ViewEvent) (events : List Event) → IsViewAfter views self.old
-            → IsRegistryAfter R.gives key_of events registry.old → same_members discovered.keys (membership_after views) ≡ false
-            → generation_after views + 1 ≢ 2 ^ 64 → has_view self.old.id (views_after events) ≡ false → result ≡ Err Refusal.NoSuch }
-        ensures unknown { IsErrOf result Refusal.NoSuch → (key_of : Member → Member) (events : List Event)
-            → IsRegistryAfter R.gives key_of events registry.old → has_view self.old.id (views_after events) ≡ false }
-        ensures numbers { IsErrOf result Refusal.NumbersExhausted → (key_of : Member → Member) (events : List Event)
-            → IsRegistryAfter R.gives key_of events registry.old
-            → 2 ^ 64 ≤ cells_given key_of (Updated self.old.id discovered.keys ∷ Applied ∷ events) }
-        ensures lacking { (key_of : Member → Member) (views : List ViewEvent) (events : List Event) → IsViewAfter views self.old
-            → IsRegistryAfter R.gives key_of events registry.old → same_members discovered.keys (membership_after views) ≡ false
-            → generation_after views + 1 ≢ 2 ^ 64 → has_view self.old.id (views_after events) ≡ true
+        ensures missing { HoldsOfBoth R.gives self.old registry.old (λ key_of views events. same_members discovered.keys
+            (membership_after views) ≡ false → generation_after views + 1 ≢ 2 ^ 64 → has_view self.old.id (views_after events) ≡ false
+            → result ≡ Err Refusal.NoSuch) }
+        ensures unknown { IsErrOf result Refusal.NoSuch
+            → HoldsOf R.gives registry.old (λ key_of events. has_view self.old.id (views_after events) ≡ false) }
+        ensures numbers { IsErrOf result Refusal.NumbersExhausted
+            → HoldsOf R.gives registry.old (λ key_of events. 2 ^ 64
+            ≤ cells_given key_of (Updated self.old.id discovered.keys ∷ Applied ∷ events)) }
+        ensures lacking { HoldsOfBoth R.gives self.old registry.old (λ key_of views events. same_members discovered.keys
+            (membership_after views) ≡ false → generation_after views + 1 ≢ 2 ^ 64 → has_view self.old.id (views_after events) ≡ true
             → 2 ^ 64 ≤ cells_given key_of (Updated self.old.id discovered.keys ∷ Applied ∷ events)
-            → result ≡ Err Refusal.NumbersExhausted }
+            → result ≡ Err Refusal.NumbersExhausted) }
         ensures refused { OnErr result (IsViewRefusal result) }
         ensures id { self.new.id ≡ self.old.id }
         ensures one_registry { registry.new.id ≡ registry.old.id }
@@ -394,34 +379,28 @@ impl ViewCore {
         registry: &mut Registry<R>,
         members: BTreeSet<Backend>,
     ) -> Result<(), Refusal>
-        ensures view { OnOk result ((key_of : Member → Member) (views : List ViewEvent) (events : List Event) → IsViewAfter views self.old
-            → IsRegistryAfter R.gives key_of events registry.old
-            → IsViewAfter (view_changed key_of self.old.id members.keys events views) self.new) }
-        ensures registry { OnOk result ((key_of : Member → Member) (views : List ViewEvent) (events : List Event)
-            → IsViewAfter views self.old
-            → IsRegistryAfter R.gives key_of events registry.old
-            → IsRegistryAfter R.gives key_of (registry_changed key_of self.old.id members.keys views events) registry.new) }
+        ensures view { OnOk result (HoldsOfBoth R.gives self.old registry.old (λ key_of views events. IsViewAfter
+            (view_changed key_of self.old.id members.keys events views) self.new)) }
+        ensures registry { OnOk result (HoldsOfBoth R.gives self.old registry.old (λ key_of views events. IsRegistryAfter R.gives key_of
+            (registry_changed key_of self.old.id members.keys views events) registry.new)) }
         ensures shown { OnOk result (IfHead self.new.snapshots (λ s. s.members ≡ members.keys)) }
         ensures some { OnOk result ((cells : List (Member × ℕ)) × ((views : List ViewEvent) → IsViewAfter views self.old
             → IsViewAfter (Shown members.keys cells ∷ views) self.new)) }
         ensures next { OnOk result (self.new.generation ≡ self.old.generation + 1) }
         ensures view_err { OnErr result ((views : List ViewEvent) → IsViewAfter views self.old → IsViewAfter views self.new) }
-        ensures registry_err { OnErr result ((key_of : Member → Member) (events : List Event)
-            → IsRegistryAfter R.gives key_of events registry.old
-            → IsRegistryAfter R.gives key_of events registry.new) }
+        ensures registry_err { OnErr result (KeepsHistory R.gives registry.old registry.new) }
         ensures exhausted { self.old.generation + 1 ≡ 2 ^ 64 → result ≡ Err Refusal.GenerationsExhausted }
         ensures last { IsErrOf result Refusal.GenerationsExhausted → self.old.generation + 1 ≡ 2 ^ 64 }
-        ensures missing { (key_of : Member → Member) (events : List Event) → IsRegistryAfter R.gives key_of events registry.old
-            → self.old.generation + 1 ≢ 2 ^ 64 → has_view self.old.id (views_after events) ≡ false → result ≡ Err Refusal.NoSuch }
-        ensures unknown { IsErrOf result Refusal.NoSuch → (key_of : Member → Member) (events : List Event)
-            → IsRegistryAfter R.gives key_of events registry.old → has_view self.old.id (views_after events) ≡ false }
-        ensures numbers { IsErrOf result Refusal.NumbersExhausted → (key_of : Member → Member) (events : List Event)
-            → IsRegistryAfter R.gives key_of events registry.old
-            → 2 ^ 64 ≤ cells_given key_of (Updated self.old.id members.keys ∷ Applied ∷ events) }
-        ensures lacking { (key_of : Member → Member) (events : List Event) → IsRegistryAfter R.gives key_of events registry.old
-            → self.old.generation + 1 ≢ 2 ^ 64 → has_view self.old.id (views_after events) ≡ true
-            → 2 ^ 64 ≤ cells_given key_of (Updated self.old.id members.keys ∷ Applied ∷ events)
-            → result ≡ Err Refusal.NumbersExhausted }
+        ensures missing { HoldsOf R.gives registry.old (λ key_of events. self.old.generation + 1 ≢ 2 ^ 64
+            → has_view self.old.id (views_after events) ≡ false → result ≡ Err Refusal.NoSuch) }
+        ensures unknown { IsErrOf result Refusal.NoSuch
+            → HoldsOf R.gives registry.old (λ key_of events. has_view self.old.id (views_after events) ≡ false) }
+        ensures numbers { IsErrOf result Refusal.NumbersExhausted
+            → HoldsOf R.gives registry.old (λ key_of events. 2 ^ 64
+            ≤ cells_given key_of (Updated self.old.id members.keys ∷ Applied ∷ events)) }
+        ensures lacking { HoldsOf R.gives registry.old (λ key_of events. self.old.generation + 1 ≢ 2 ^ 64
+            → has_view self.old.id (views_after events) ≡ true
+            → 2 ^ 64 ≤ cells_given key_of (Updated self.old.id members.keys ∷ Applied ∷ events) → result ≡ Err Refusal.NumbersExhausted) }
         ensures refused { OnErr result (IsViewRefusal result) }
         ensures id { self.new.id ≡ self.old.id }
         ensures one_registry { registry.new.id ≡ registry.old.id }
@@ -538,8 +517,8 @@ fn is_healthy<R: KeyRule + Drop>(
     snapshot: &ViewSnapshot,
     backend: &Backend,
 ) -> bool
-    ensures { (key_of : Member → Member) (events : List Event) → IsRegistryAfter R.gives key_of events registry.now
-        → (IsTrue result ↔ IsHealthyIn key_of events backend.now (snapshot_of snapshot.now)) }
+    ensures { HoldsOf R.gives registry.now (λ key_of events. IsTrue result
+        ↔ IsHealthyIn key_of events backend.now (snapshot_of snapshot.now)) }
 {
     match snapshot.cells.get(backend) {
         Some(cell) => registry.cell_ready(cell),

@@ -20,10 +20,10 @@ use Rattle.lb_rebuild_core.specs.declared.membership.Scheduled.{Scheduled}
 use Rattle.lb_health_view.specs.RegistrySide.{registry_released, registry_updated, IsReady}
 use Rattle.lb_health_view.specs.Snapshots.{ViewValue}
 use Rattle.lb_health_view.specs.ViewEvents.{ViewEvent}
-use Rattle.lb_health_view.specs.Views.{IsViewAfter}
-use Rattle.lb_health_core.specs.Registry.{RegistryValue, IsRegistryAfter}
+use Rattle.lb_health_view.specs.Views.{HoldsOfBoth}
+use Rattle.lb_health_core.specs.Registry.{RegistryValue, IsRegistryAfter, HoldsOf, Grows, KeepsHistory}
 use Rattle.lb_health_core.specs.RegistryEvents as registry
-use Rattle.lb_health_core.specs.RegistryEvents.{Event, Applied, Updated, Marked, cells_given, has_view, views_after}
+use Rattle.lb_health_core.specs.RegistryEvents.{Applied, Updated, Marked, cells_given, has_view, views_after}
 use Rattle.lb_rebuild_core.specs.GroupHistory.{History, Shown, slot_events, in_group, after_settings}
 use Rattle.lb_rebuild_core.specs.GroupStates.{GroupValue, Stands, After, Becomes, SameSite, views_of}
 
@@ -67,33 +67,29 @@ pub record IsScheduled {C R : Type 0} (gives : R → Member → Member → Type 
   -- the answer is right
   pub answers : After v (λ made e. Schedules made e members r)
   -- where it is taken in, the group has the cells that the registry gives, and then the settings
-  pub stands : OnOk r ((key_of : Member → Member) (events : List Event) → IsRegistryAfter gives key_of events x
-      → After v (λ made e. Stands made (after_schedule key_of v.view.id members settings now events e) w))
+  pub stands : OnOk r (HoldsOf gives x (λ key_of events. After v (λ made e. Stands made
+      (after_schedule key_of v.view.id members settings now events e) w)))
   -- the same of the slots alone, whatever the registry has been through
   pub group : IfOk r (λ s. After v (λ made e. StandsFor made (slots.schedule_events members now (Ok s) ++ slot_events e) w.group))
   -- where it is taken in, the registry shows it to the view
-  pub registry : OnOk r ((key_of : Member → Member) (events : List Event) → IsRegistryAfter gives key_of events x
-      → After v (λ made e. IsRegistryAfter gives key_of (registry_updated key_of v.view.id members (views_of made e) events) y))
+  pub registry : OnOk r (HoldsOf gives x (λ key_of events. After v (λ made e. IsRegistryAfter gives key_of
+      (registry_updated key_of v.view.id members (views_of made e) events) y)))
   -- where it is refused, the group is as before
   pub err : OnErr r (After v (λ made e. Stands made e w))
   -- where it is refused, the registry is as before
-  pub registry_err : OnErr r ((key_of : Member → Member) (events : List Event) → IsRegistryAfter gives key_of events x
-      → IsRegistryAfter gives key_of events y)
+  pub registry_err : OnErr r (KeepsHistory gives x y)
   -- it is refused for the want of a view only where the registry has no such view
-  pub unknown : IsErrOf r NoSuch → (key_of : Member → Member) (events : List Event) → IsRegistryAfter gives key_of events x
-      → has_view v.view.id (views_after events) ≡ false
+  pub unknown : IsErrOf r NoSuch → HoldsOf gives x (λ key_of events. has_view v.view.id (views_after events) ≡ false)
   -- it is refused for the want of numbers only where too few are left for its cells
-  pub numbers : IsErrOf r NumbersExhausted → (key_of : Member → Member) (events : List Event) → IsRegistryAfter gives key_of events x
-      → 2 ^ 64 ≤ cells_given key_of (Updated v.view.id members ∷ Applied ∷ events)
+  pub numbers : IsErrOf r NumbersExhausted
+      → HoldsOf gives x (λ key_of events. 2 ^ 64 ≤ cells_given key_of (Updated v.view.id members ∷ Applied ∷ events))
   -- another membership that the group itself doesn't refuse is refused for the want of a view where the registry has no such view
-  pub missing : (key_of : Member → Member) (events : List Event) → IsRegistryAfter gives key_of events x
-      → After v (λ made e. slots.schedule_refusal members (slot_events e) ≡ None → slots.is_change members (slot_events e) ≡ true
-      → has_view v.view.id (views_after events) ≡ false → r ≡ Err NoSuch)
+  pub missing : HoldsOf gives x (λ key_of events. After v (λ made e. slots.schedule_refusal members (slot_events e) ≡ None
+      → slots.is_change members (slot_events e) ≡ true → has_view v.view.id (views_after events) ≡ false → r ≡ Err NoSuch))
   -- and for the want of numbers where it has the view and too few are left
-  pub lacking : (key_of : Member → Member) (events : List Event) → IsRegistryAfter gives key_of events x
-      → After v (λ made e. slots.schedule_refusal members (slot_events e) ≡ None → slots.is_change members (slot_events e) ≡ true
-      → has_view v.view.id (views_after events) ≡ true → 2 ^ 64 ≤ cells_given key_of (Updated v.view.id members ∷ Applied ∷ events)
-      → r ≡ Err NumbersExhausted)
+  pub lacking : HoldsOf gives x (λ key_of events. After v (λ made e. slots.schedule_refusal members (slot_events e) ≡ None
+      → slots.is_change members (slot_events e) ≡ true → has_view v.view.id (views_after events) ≡ true
+      → 2 ^ 64 ≤ cells_given key_of (Updated v.view.id members ∷ Applied ∷ events) → r ≡ Err NumbersExhausted))
   -- gate, configurations and view stay
   pub site : SameSite v w
   -- it is the same registry
@@ -112,8 +108,8 @@ generation_at slot e = generation_of (extra (past_of slot (slot_events e)))
 abbrev pub IsReleasedWhere : {A B C R : Type 0} → (R → Member → Member → Type 0) → Result A B → GroupValue C → (Made C → History → ℕ)
     → RegistryValue R → RegistryValue R → Type 0
 IsReleasedWhere gives r v generation x y =
-    (key_of : Member → Member) (events : List Event) → IsRegistryAfter gives key_of events x
-    → After v (λ made e. IsRegistryAfter gives key_of (released_where r v.view.id (generation made e) (views_of made e) events) y)
+    HoldsOf gives x (λ key_of events. After v (λ made e. IsRegistryAfter gives key_of (released_where r v.view.id (generation made e)
+    (views_of made e) events) y))
 
 -- A slot was asked for its next build at a moment, and answered r: what the group was before (v) and is after (w), and what its gate was
 -- before (g) and is after (k).
@@ -250,8 +246,7 @@ pub record IsCancelled {C R : Type 0} (gives : R → Member → Member → Type 
   -- gate, configurations and view stay
   pub site : SameSite v w
   -- the view is marked for removal
-  pub registry : (key_of : Member → Member) (events : List Event) → IsRegistryAfter gives key_of events x
-      → IsRegistryAfter gives key_of (Marked v.view.id ∷ events) y
+  pub registry : Grows gives x (λ events. Marked v.view.id ∷ events) y
   -- it is the same registry
   pub one_registry : y.id ≡ x.id
 
@@ -259,8 +254,7 @@ pub record IsCancelled {C R : Type 0} (gives : R → Member → Member → Type 
 abbrev pub IsReadyFor : {C R : Type 0} → (R → Member → Member → Type 0) → GroupValue C → RegistryValue R → ReaderValue C → Member → Bool
     → Type 0
 IsReadyFor gives v x reader b ready =
-    (key_of : Member → Member) (events : List Event) → IsRegistryAfter gives key_of events x
-    → After v (λ made e. IsTrue ready ↔ IsReady key_of (views_of made e) events reader.generation b)
+    HoldsOf gives x (λ key_of events. After v (λ made e. IsTrue ready ↔ IsReady key_of (views_of made e) events reader.generation b))
 
 -- the generation that a slot serves
 abbrev pub served_at : ℕ → History → ℕ
@@ -273,8 +267,7 @@ Judges key_of events made e n b ready = IsTrue ready ↔ IsReady key_of (views_o
 -- the same, whatever view and registry have been through
 abbrev pub IsJudged : {R : Type 0} → (R → Member → Member → Type 0) → ViewValue → RegistryValue R → ℕ → Member → Bool → Type 0
 IsJudged gives v r n b ready =
-    (key_of : Member → Member) (views : List ViewEvent) (events : List registry.Event)
-    → IsViewAfter views v → IsRegistryAfter gives key_of events r → (IsTrue ready ↔ IsReady key_of views events n b)
+    HoldsOfBoth gives v r (λ key_of views events. IsTrue ready ↔ IsReady key_of views events n b)
 
 -- asked with a backend, and with one of the answers that are right of it, f may answer r
 pub record AcceptsBy {F B : Type 0} (g : Shared F (Bor B × (Bool × Unit {0})) Bool) (f : F) (right : B → Bool → Type 0) (b : B) (r : Bool)

@@ -1,9 +1,8 @@
 //! A group joined with its view: a membership reaches both or neither, and each slot holds the snapshots that it has in use.
 //! A call tests all that it can refuse for before it changes anything; builds run elsewhere, between `ask` and `publish`.
-ghost use Rattle.std.specs.Prelude.{◌≡◌, ◌≢◌, ◌↔◌, ◌<◌, ◌≤◌, ◌+◌, ◌^◌, ◌∷◌, [], List, true, false, map, replicate, None, Ok, Err};
+ghost use Rattle.std.specs.Prelude.{◌≡◌, ◌≢◌, ◌↔◌, ◌<◌, ◌≤◌, ◌+◌, ◌^◌, ◌∷◌, [], true, false, map, replicate, None, Ok, Err};
 ghost use Rattle.std.specs.Prelude.{length, IfOk, IfErr, IsTrue, OnOk, OnErr, IsErrOf, slice_get};
 ghost use Rattle.std.specs.Arc.{arc_value};
-ghost use Rattle.lb_select_base.specs.Backends.{Member};
 ghost use Rattle.lb_select_base.specs.Loads.{load_in};
 ghost use Rattle.lb_select_base.specs.Refusals.{least, memory_apart};
 ghost use Rattle.lb_rebuild_core.specs.SlotsHistory.{past_of, newest as newest_after};
@@ -16,8 +15,8 @@ ghost use Rattle.lb_rebuild_core.specs.SlotsCalls.{schedule_refusal, Prepares, F
 ghost use Rattle.lb_health_view.specs.RegistrySide.{IsReady, settings_of};
 ghost use Rattle.lb_health_view.specs.ViewEvents.{Held};
 ghost use Rattle.lb_health_view.specs.Views.{IsViewAfter};
-ghost use Rattle.lb_health_core.specs.Registry.{IsRegistryAfter};
-ghost use Rattle.lb_health_core.specs.RegistryEvents.{Event, Registered, Applied, Updated, registered_after, views_after};
+ghost use Rattle.lb_health_core.specs.Registry.{HoldsOf, Grows, KeepsHistory};
+ghost use Rattle.lb_health_core.specs.RegistryEvents.{Registered, Applied, Updated, registered_after, views_after};
 ghost use Rattle.lb_health_core.specs.RegistryEvents.{has_view, cells_given};
 ghost use Rattle.lb_rebuild_core.specs.GroupCalls.{IsSharedRefusal, IsRefusedFor, served_at, Judges, IsJudged, AcceptsBy};
 ghost use Rattle.lb_rebuild_core.specs.GroupCalls.{IsMakingRefusal, IsScheduled, IsCancelled, IsAsked, IsFailed, IsPublished, IsAbandoned};
@@ -88,16 +87,11 @@ impl<S: BackendSelection> GroupCore<S> {
         ensures site { IfOk result (λ g. g.registry ≡ registry.old.id) }
         ensures one_registry { registry.new.id ≡ registry.old.id }
         ensures gate { IfOk result (λ g. g.group.gate ≡ gate.now.id) }
-        ensures id { IfOk result (λ g. (key_of : Member → Member) (events : List Event) → IsRegistryAfter R.gives key_of events registry.old
-            → g.view.id ≡ registered_after events + 1) }
-        ensures registry { OnOk result ((key_of : Member → Member) (events : List Event)
-            → IsRegistryAfter R.gives key_of events registry.old
-            → IsRegistryAfter R.gives key_of (Applied ∷ Registered ∷ events) registry.new) }
-        ensures err { OnErr result ((key_of : Member → Member) (events : List Event) → IsRegistryAfter R.gives key_of events registry.old
-            → IsRegistryAfter R.gives key_of events registry.new) }
-        ensures exhausted { (key_of : Member → Member) (events : List Event) → IsRegistryAfter R.gives key_of events registry.old
-            → memory_apart (least (map (S.refusal []) configs.items)) ≡ None
-            → (IsErrOf result Refusal.NumbersExhausted ↔ (2 ^ 64 ≤ registered_after events + 1)) }
+        ensures id { IfOk result (λ g. HoldsOf R.gives registry.old (λ key_of events. g.view.id ≡ registered_after events + 1)) }
+        ensures registry { OnOk result (Grows R.gives registry.old (λ events. Applied ∷ Registered ∷ events) registry.new) }
+        ensures err { OnErr result (KeepsHistory R.gives registry.old registry.new) }
+        ensures exhausted { HoldsOf R.gives registry.old (λ key_of events. memory_apart (least (map (S.refusal []) configs.items)) ≡ None
+            → (IsErrOf result Refusal.NumbersExhausted ↔ (2 ^ 64 ≤ registered_after events + 1))) }
         ensures refused { IsMakingRefusal (least (map (S.refusal []) configs.items)) result }
     {
         let slots = configs.len();
@@ -413,10 +407,9 @@ impl<S: BackendSelection> GroupCore<S> {
         loads: &Loads,
     ) -> Selection
         requires registry { registry.now.id ≡ self.old.registry }
-        ensures answers { (key_of : Member → Member) (events : List Event) → IsRegistryAfter R.gives key_of events registry.now
-            → After self.old (λ made e. SelectsIn S.may_draw_random S.walks
-            (Judges key_of events made e (served_at slot e)) (load_in loads.now)
-            made (slot_events e) slot key.now limit random.now result) }
+        ensures answers { HoldsOf R.gives registry.now (λ key_of events. After self.old (λ made e. SelectsIn S.may_draw_random S.walks
+            (Judges key_of events made e (served_at slot e)) (load_in loads.now) made
+            (slot_events e) slot key.now limit random.now result)) }
         ensures stands { After self.old (λ made e. Stands made (after_select made slot result e) self.new) }
         ensures site { SameSite self.old self.new }
     {
@@ -448,10 +441,9 @@ impl<S: BackendSelection> GroupCore<S> {
     ) -> Selection
         requires accept { F.IsAlwaysCallable accept.now }
         requires registry { registry.now.id ≡ self.old.registry }
-        ensures answers { (key_of : Member → Member) (events : List Event) → IsRegistryAfter R.gives key_of events registry.now
-            → After self.old (λ made e. SelectsIn S.may_draw_random S.walks
-            (AcceptsBy F.Fn accept.now (Judges key_of events made e (served_at slot e))) (load_in loads.now)
-            made (slot_events e) slot key.now limit random.now result) }
+        ensures answers { HoldsOf R.gives registry.now (λ key_of events. After self.old (λ made e. SelectsIn S.may_draw_random S.walks
+            (AcceptsBy F.Fn accept.now (Judges key_of events made e (served_at slot e))) (load_in loads.now) made
+            (slot_events e) slot key.now limit random.now result)) }
         ensures stands { After self.old (λ made e. Stands made (after_select made slot result e) self.new) }
         ensures site { SameSite self.old self.new }
     {
@@ -477,9 +469,8 @@ impl<S: BackendSelection> GroupCore<S> {
     /// Returns whether a backend is ready in the newest membership, without taking memory.
     pub fn newest_ready<R: KeyRule + Drop>(&self, registry: &Registry<R>, backend: &Backend) -> bool
         requires registry { registry.now.id ≡ self.now.registry }
-        ensures { (key_of : Member → Member) (events : List Event) → IsRegistryAfter R.gives key_of events registry.now
-            → After self.now (λ made e. IsTrue result
-            ↔ IsReady key_of (views_of made e) events (newest_after (slot_events e)) backend.now) }
+        ensures { HoldsOf R.gives registry.now (λ key_of events. After self.now (λ made e. IsTrue result
+            ↔ IsReady key_of (views_of made e) events (newest_after (slot_events e)) backend.now)) }
     {
         let newest = self.group.newest();
         self.view.ready_in(registry, newest, backend)
@@ -577,11 +568,11 @@ fn cause_without_memory<R: KeyRule + Drop>(
     discovered: &BTreeSet<Backend>,
 ) -> Refusal
     ensures shared { IsSharedRefusal result }
-    ensures unknown { (key_of : Member → Member) (events : List Event) → IsRegistryAfter R.gives key_of events registry.now
-        → (result ≡ Refusal.NoSuch ↔ (has_view view.now.id (views_after events) ≡ false)) }
-    ensures numbers { (key_of : Member → Member) (events : List Event) → IsRegistryAfter R.gives key_of events registry.now
-        → has_view view.now.id (views_after events) ≡ true → (result ≡ Refusal.NumbersExhausted
-        ↔ (2 ^ 64 ≤ cells_given key_of (Updated view.now.id discovered.now.keys ∷ Applied ∷ events))) }
+    ensures unknown { HoldsOf R.gives registry.now (λ key_of events. result ≡ Refusal.NoSuch
+        ↔ (has_view view.now.id (views_after events) ≡ false)) }
+    ensures numbers { HoldsOf R.gives registry.now (λ key_of events. has_view view.now.id (views_after events) ≡ true
+        → (result ≡ Refusal.NumbersExhausted
+        ↔ (2 ^ 64 ≤ cells_given key_of (Updated view.now.id discovered.now.keys ∷ Applied ∷ events)))) }
 {
     if !registry.has_view(view.id()) {
         return Refusal::NoSuch;
@@ -603,21 +594,18 @@ fn prepared<S: BackendSelection, R: KeyRule + Drop>(
     ensures answers { IfOk result (λ p. AfterGroup group.now (λ made h. Prepares made h discovered.now.keys (Ok p))) }
     ensures fits { IfOk result (λ p. FitsIfThere group.now p) }
     ensures refused { IfErr result (λ e. AfterGroup group.now (λ made h. IsRefusedFor h discovered.now.keys e)) }
-    ensures unknown { IsErrOf result Refusal.NoSuch → (key_of : Member → Member) (events : List Event)
-        → IsRegistryAfter R.gives key_of events registry.now
-        → AfterGroup group.now (λ made h. has_view view.now.id (views_after events) ≡ false) }
-    ensures numbers { IsErrOf result Refusal.NumbersExhausted → (key_of : Member → Member) (events : List Event)
-        → IsRegistryAfter R.gives key_of events registry.now
-        → AfterGroup group.now (λ made h. 2 ^ 64 ≤ cells_given key_of (Updated view.now.id discovered.now.keys ∷ Applied ∷ events)) }
-    ensures missing { IfErr result (λ e. (key_of : Member → Member) (events : List Event)
-        → IsRegistryAfter R.gives key_of events registry.now
-        → AfterGroup group.now (λ made h. schedule_refusal discovered.now.keys h ≡ None
-        → has_view view.now.id (views_after events) ≡ false → e ≡ Refusal.NoSuch)) }
-    ensures lacking { IfErr result (λ e. (key_of : Member → Member) (events : List Event)
-        → IsRegistryAfter R.gives key_of events registry.now
-        → AfterGroup group.now (λ made h. schedule_refusal discovered.now.keys h ≡ None
-        → has_view view.now.id (views_after events) ≡ true
-        → 2 ^ 64 ≤ cells_given key_of (Updated view.now.id discovered.now.keys ∷ Applied ∷ events) → e ≡ Refusal.NumbersExhausted)) }
+    ensures unknown { IsErrOf result Refusal.NoSuch
+        → HoldsOf R.gives registry.now (λ key_of events. AfterGroup group.now (λ made h. has_view view.now.id (views_after events)
+        ≡ false)) }
+    ensures numbers { IsErrOf result Refusal.NumbersExhausted
+        → HoldsOf R.gives registry.now (λ key_of events. AfterGroup group.now (λ made h. 2 ^ 64
+        ≤ cells_given key_of (Updated view.now.id discovered.now.keys ∷ Applied ∷ events))) }
+    ensures missing { IfErr result (λ e. HoldsOf R.gives registry.now (λ key_of events. AfterGroup group.now
+        (λ made h. schedule_refusal discovered.now.keys h ≡ None → has_view view.now.id (views_after events) ≡ false
+        → e ≡ Refusal.NoSuch))) }
+    ensures lacking { IfErr result (λ e. HoldsOf R.gives registry.now (λ key_of events. AfterGroup group.now
+        (λ made h. schedule_refusal discovered.now.keys h ≡ None → has_view view.now.id (views_after events) ≡ true
+        → 2 ^ 64 ≤ cells_given key_of (Updated view.now.id discovered.now.keys ∷ Applied ∷ events) → e ≡ Refusal.NumbersExhausted))) }
 {
     match group.prepare(alloc, discovered) {
         Ok(prepared) => Ok(prepared),

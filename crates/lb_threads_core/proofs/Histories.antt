@@ -4,12 +4,12 @@ use Rattle.std.specs.Prelude.{ℕ, ◌+◌, Result, Ok, Err, OnOk, OnErr, if◌t
 use Rattle.lb_select_base.specs.Backends.{Member}
 use Rattle.lb_select_base.specs.Memberships.{same_members}
 use Rattle.lb_select_base.specs.declared.refusal.Refusal.{Refusal}
-use Rattle.lb_health_core.specs.Registry.{RegistryValue, IsRegistryAfter}
+use Rattle.lb_health_core.specs.Registry.{RegistryValue, IsRegistryAfter, Grows, KeepsHistory}
 use Rattle.lb_health_core.specs.RegistryEvents.{Event, Applied, Registered, Updated, Held, Released, members_of, views_after}
 use Rattle.lb_health_core.specs.RegistryEvents.{after_update}
 use Rattle.lb_health_view.specs.RegistrySide.{lives, registry_updated, view_changed}
 use Rattle.lb_health_view.specs.ViewEvents.{ViewEvent, snapshots_after, generation_after, membership_after}
-use Rattle.lb_threads_core.specs.Registry.{IsRegistryOf, Becomes}
+use Rattle.lb_threads_core.specs.Registry.{IsRegistryOf}
 
 -- these events and some more
 abbrev pub Longer : List Event → List Event → Type 0
@@ -58,7 +58,7 @@ module _ {R : Type 0} {gives : R → Member → Member → Type 0} where
       let l = longer key_of events in
       (l.0, subst (λ es. IsRegistryAfter gives key_of es y) l.1 (becomes key_of events after))
 
-  pub stays : {x y : RegistryValue R} → Becomes gives x (λ events. events) y → IsRegistryOf gives x y
+  pub stays : {x y : RegistryValue R} → KeepsHistory gives x y → IsRegistryOf gives x y
   stays becomes key_of events after = ([], becomes key_of events after)
 
   -- a call of a registry that further events have made of another
@@ -73,31 +73,31 @@ module _ {R : Type 0} {gives : R → Member → Member → Type 0} where
   at_site {x = x} same of = subst (λ s. IsRegistryOf gives s x) same of
 
   -- a call that adds one event where it isn't refused
-  pub added : {A E : Type 0} (r : Result A E) (e : Event) {x y : RegistryValue R} → OnOk r (Becomes gives x (λ events. e ∷ events) y)
-      → OnErr r (Becomes gives x (λ events. events) y) → IsRegistryOf gives x y
+  pub added : {A E : Type 0} (r : Result A E) (e : Event) {x y : RegistryValue R} → OnOk r (Grows gives x (λ events. e ∷ events) y)
+      → OnErr r (KeepsHistory gives x y) → IsRegistryOf gives x y
   added (Ok a) e ok err = lengthened (λ key_of events. e ∷ events) (λ key_of events. one_more e (no_more events)) ok
   added (Err a) e ok err = stays err
 
   -- a call that adds one event, or is refused and changes nothing
   pub added_or_same : {A E : Type 0} (r : Result A E) (e : Event) {x y : RegistryValue R}
-      → OnOk r (Becomes gives x (λ events. e ∷ events) y)
+      → OnOk r (Grows gives x (λ events. e ∷ events) y)
       → OnErr r (y ≡ x) → IsRegistryOf gives x y
   added_or_same (Ok a) e ok err = lengthened (λ key_of events. e ∷ events) (λ key_of events. one_more e (no_more events)) ok
   added_or_same (Err a) e {x = x} ok err = subst (λ z. IsRegistryOf gives x z) (sym err) (stays (λ key_of events after. after))
 
   pub updated_later : (r : Result (Unit {0}) Refusal) (id : ℕ) (members : List Member) {x y : RegistryValue R}
-      → OnOk r (Becomes gives x (after_update id members) y) → OnErr r (Becomes gives x (λ events. events) y) → IsRegistryOf gives x y
+      → OnOk r (Grows gives x (after_update id members) y) → OnErr r (KeepsHistory gives x y) → IsRegistryOf gives x y
   updated_later (Ok a) id members ok err = lengthened (λ key_of events. after_update id members events)
       (λ key_of events. updated id members events) ok
   updated_later (Err a) id members ok err = stays err
 
-  pub marked_later : {x y : RegistryValue R} (e : Event) → Becomes gives x (λ events. e ∷ events) y → IsRegistryOf gives x y
+  pub marked_later : {x y : RegistryValue R} (e : Event) → Grows gives x (λ events. e ∷ events) y → IsRegistryOf gives x y
   marked_later e becomes = lengthened (λ key_of events. e ∷ events) (λ key_of events. one_more e (no_more events)) becomes
 
   -- a view is registered, or refused
   pub registered_later : {A E : Type 0} (r : Result A E) {x y : RegistryValue R}
-      → OnOk r (Becomes gives x (λ events. Applied ∷ Registered ∷ events) y)
-      → OnErr r (Becomes gives x (λ events. events) y) → IsRegistryOf gives x y
+      → OnOk r (Grows gives x (λ events. Applied ∷ Registered ∷ events) y)
+      → OnErr r (KeepsHistory gives x y) → IsRegistryOf gives x y
   registered_later (Ok a) ok err =
       lengthened (λ key_of events. Applied ∷ Registered ∷ events) (λ key_of events. one_more Applied (one_more Registered (no_more events)))
       ok

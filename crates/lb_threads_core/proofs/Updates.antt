@@ -5,7 +5,7 @@ use Rattle.std.proofs.lemmas.Result.{IfOk-at_ok}
 use Rattle.lb_select_base.specs.Backends.{Member}
 use Rattle.lb_select_base.specs.declared.refusal.Refusal.{Refusal}
 use Rattle.lb_select_base.specs.declared.refusal.Refusal.TheVariants.{Discovery}
-use Rattle.lb_health_core.specs.Registry.{RegistryValue, IsRegistryAfter}
+use Rattle.lb_health_core.specs.Registry.{RegistryValue, IsRegistryAfter, KeepsHistory}
 use Rattle.lb_health_core.specs.RegistryEvents.{Event}
 use Rattle.lb_health_view.specs.Discoveries.{Discovers, Found}
 use Rattle.lb_health_view.specs.RegistrySide.{registry_updated}
@@ -13,7 +13,7 @@ use Rattle.lb_health_view.specs.Snapshots.{ViewValue}
 use Rattle.lb_health_view.specs.ViewEvents.{ViewEvent}
 use Rattle.lb_health_view.specs.Views.{IsFounded, IsViewAfter, IsViewRefusal}
 use Rattle.lb_health_view.specs.Updates.{IsBackendsRefusal}
-use Rattle.lb_threads_core.specs.Registry.{Becomes, IsRegistryOf, UnderRegistry}
+use Rattle.lb_threads_core.specs.Registry.{IsRegistryOf, UnderRegistry}
 use Rattle.lb_threads_core.proofs.Histories.{changed, lengthened, stays}
 use Rattle.lb_threads_core.specs.View.{Calls, HasLast, IsState, IsTakenIn, Keeps, LacksNumbers, LacksView, RefusedFor}
 use Rattle.lb_threads_core.specs.View.{Takes, UnderBoth, UpdatedUnder}
@@ -53,7 +53,7 @@ module _ {R : Type 0} {gives : R → Member → Member → Type 0} where
   pub taken-later : {A E : Type 0} (r : Result A E) (v : ViewValue) (members : List Member) {x y : RegistryValue R} → IsFounded v
       → OnOk r ((key_of : Member → Member) (views : List ViewEvent) (events : List Event) → IsViewAfter views v
       → IsRegistryAfter gives key_of events x → IsRegistryAfter gives key_of (registry_updated key_of v.id members views events) y)
-      → OnErr r (Becomes gives x (λ events. events) y) → IsRegistryOf gives x y
+      → OnErr r (KeepsHistory gives x y) → IsRegistryOf gives x y
   taken-later (Ok a) v members p ok err =
       lengthened (λ key_of events. registry_updated key_of v.id members p.0 events)
       (λ key_of events. changed key_of v.id members p.0 events)

@@ -7,16 +7,16 @@ use Rattle.lb_select_base.specs.Backends.{Member}
 use Rattle.lb_select_base.specs.Memberships.{same_members}
 use Rattle.lb_select_base.specs.declared.refusal.Refusal.{Refusal}
 use Rattle.lb_select_base.specs.declared.refusal.Refusal.TheVariants.{GenerationsExhausted, NoSuch, NumbersExhausted}
-use Rattle.lb_health_core.specs.Registry.{RegistryValue, IsRegistryAfter}
-use Rattle.lb_health_core.specs.RegistryEvents.{Event, Applied, Registered, Updated, cells_given, has_view}
+use Rattle.lb_health_core.specs.Registry.{RegistryValue, IsRegistryAfter, HoldsOf, Grows, KeepsHistory}
+use Rattle.lb_health_core.specs.RegistryEvents.{Applied, Registered, Updated, cells_given, has_view}
 use Rattle.lb_health_core.specs.RegistryEvents.{registered_after, views_after}
 use Rattle.lb_health_view.specs.Discoveries.{Discovers, Found}
 use Rattle.lb_health_view.specs.RegistrySide.{IsReady, registry_updated, view_updated}
 use Rattle.lb_health_view.specs.Snapshots.{ViewValue}
 use Rattle.lb_health_view.specs.ViewEvents.{ViewEvent, generation_after, membership_after}
-use Rattle.lb_health_view.specs.Views.{IsFounded, IsViewAfter}
+use Rattle.lb_health_view.specs.Views.{IsFounded, IsViewAfter, HoldsOfBoth}
 use Rattle.lb_health_view.specs.declared.discovery.DiscoverySource.{DiscoverySource}
-use Rattle.lb_threads_core.specs.Registry.{Becomes, IsRegistryOf, RegistryHandle, Told, UnderRegistry}
+use Rattle.lb_threads_core.specs.Registry.{IsRegistryOf, RegistryHandle, UnderRegistry}
 
 -- the discovery, the number of the view, its registry, which lock the view is behind, and whether who is made of it runs the checks
 pub record ViewHandle (D R : Type 0) : Type 0 where
@@ -56,40 +56,34 @@ module _ {R : Type 0} (gives : R → Member → Member → Type 0) where
   -- A view was registered under the next number, and the marks that wait were applied. Where no number was left, that is the refusal,
   -- and no other time.
   pub record IsRegisteredAs {A : Type 0} (id_of : A → ℕ) (r : Result A Refusal) (x y : RegistryValue R) : Type 0 where
-    pub ok : OnOk r (Becomes gives x (λ events. Applied ∷ Registered ∷ events) y)
-    pub number : IfOk r (λ a. Told gives x (λ key_of events. id_of a ≡ registered_after events + 1))
-    pub exhausted : Told gives x (λ key_of events. IsErrOf r NumbersExhausted ↔ (2 ^ 64 ≤ registered_after events + 1))
-
-  -- what holds after each history that explains a view and each that explains its registry
-  abbrev pub AfterBoth : ViewValue → RegistryValue R → ((Member → Member) → List ViewEvent → List Event → Type 0) → Type 0
-  AfterBoth v x Holds =
-      (key_of : Member → Member) (views : List ViewEvent) (events : List Event) → IsViewAfter views v
-      → IsRegistryAfter gives key_of events x → Holds key_of views events
+    pub ok : OnOk r (Grows gives x (λ events. Applied ∷ Registered ∷ events) y)
+    pub number : IfOk r (λ a. HoldsOf gives x (λ key_of events. id_of a ≡ registered_after events + 1))
+    pub exhausted : HoldsOf gives x (λ key_of events. IsErrOf r NumbersExhausted ↔ (2 ^ 64 ≤ registered_after events + 1))
 
   -- whether a backend is ready in the newest membership, by some state of the view and some state of its registry
   abbrev pub JudgedUnder : {D : Type 0} → ViewHandle D R → Member → Bool → Type 0
   JudgedUnder site b ready =
       Seen site.id (λ v. (x : RegistryValue R) × (IsRegistryOf gives site.registry.start x
-      × AfterBoth v x (λ key_of views events. IsTrue ready ↔ IsReady key_of views events (generation_after views) b)))
+      × HoldsOfBoth gives v x (λ key_of views events. IsTrue ready ↔ IsReady key_of views events (generation_after views) b)))
 
   -- a view and its registry after a membership and settings
   pub record Takes (members : List Member) (settings : List (Member × Bool)) (v : ViewValue) (x : RegistryValue R) (w : ViewValue)
       (y : RegistryValue R) : Type 0 where
-    pub view : AfterBoth v x (λ key_of views events. IsViewAfter (view_updated key_of v.id members settings events views) w)
-    pub registry : AfterBoth v x (λ key_of views events. IsRegistryAfter gives key_of (registry_updated key_of v.id members views events) y)
+    pub view : HoldsOfBoth gives v x (λ key_of views events. IsViewAfter (view_updated key_of v.id members settings events views) w)
+    pub registry : HoldsOfBoth gives v x (λ key_of views events. IsRegistryAfter gives key_of (registry_updated key_of v.id members views events) y)
 
   -- a view and its registry after a refused call: as before
   pub record Keeps (v : ViewValue) (x : RegistryValue R) (w : ViewValue) (y : RegistryValue R) : Type 0 where
     pub view : After v (λ views. IsViewAfter views w)
-    pub registry : Becomes gives x (λ events. events) y
+    pub registry : KeepsHistory gives x y
 
   -- Or the registry has no such view, or no number is left for a cell.
   abbrev pub LacksView : ViewValue → RegistryValue R → Type 0
-  LacksView v x = Told gives x (λ key_of events. has_view v.id (views_after events) ≡ false)
+  LacksView v x = HoldsOf gives x (λ key_of events. has_view v.id (views_after events) ≡ false)
 
   abbrev pub LacksNumbers : List Member → ViewValue → RegistryValue R → Type 0
   LacksNumbers members v x =
-      Told gives x (λ key_of events. 2 ^ 64 ≤ cells_given key_of (Updated v.id members ∷ Applied ∷ events))
+      HoldsOf gives x (λ key_of events. 2 ^ 64 ≤ cells_given key_of (Updated v.id members ∷ Applied ∷ events))
 
   -- A view and its registry took in what was discovered, and it was answered whether that is another membership; or it was refused.
   pub record IsTakenIn (members : List Member) (settings : List (Member × Bool)) (v : ViewValue) (x : RegistryValue R)

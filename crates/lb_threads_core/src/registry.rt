@@ -3,7 +3,7 @@
 ghost use Rattle.std.specs.Prelude.{◌≡◌, ◌↔◌, ◌≤◌, ◌+◌, ◌^◌, ◌∷◌, ℕ, All, Bool, IsTrue, false, length, Result, Err, IfErr, IfOk, OnErr};
 ghost use Rattle.std.specs.Arc.{arc_value};
 ghost use Rattle.lb_health_core.specs.declared.error.CheckError.{CheckError};
-ghost use Rattle.lb_health_core.specs.Registry.{IsGrowthRefusal, IsUpdateRefusal, targets_after};
+ghost use Rattle.lb_health_core.specs.Registry.{Grows, HoldsOf, IsGrowthRefusal, IsUpdateRefusal, targets_after};
 ghost use Rattle.lb_health_core.specs.RegistryEvents.{Marked, registered_after, views_after};
 ghost use Rattle.lb_health_core.specs.Targets.{target_keys};
 ghost use Rattle.lb_health_core.specs.Verdicts.{Verdict};
@@ -11,9 +11,8 @@ ghost use Rattle.lb_health_core.specs.RegistryEvents.{Configured};
 ghost use Rattle.lb_health_view.specs.Passes.{verdict_of};
 ghost use Rattle.lb_select_base.specs.declared.refusal.Refusal.{Refusal};
 ghost use Rattle.lb_threads_core.specs.Internal.Leaving.{EndsSnapshots, HaveLeft, IsNoteOf};
-ghost use Rattle.lb_threads_core.specs.Registry.{Becomes};
 ghost use Rattle.lb_threads_core.specs.Registry.{IsApplied, IsCellReady, IsObserved, IsRegistered, IsRegistryOf, IsUpdated};
-ghost use Rattle.lb_threads_core.specs.Registry.{SeenIn, Told, UnderRegistry};
+ghost use Rattle.lb_threads_core.specs.Registry.{SeenIn, UnderRegistry};
 
 use crate::keyed::NoRule;
 use crate::lock::{KeyedLock, TakenValue};
@@ -108,7 +107,7 @@ impl<R: KeyRule + Drop, C: HealthCheck + Drop> HealthRegistry<R, C> {
     /// Returns the registry with cells that begin unhealthy from now on; those that are there stay as they are. It takes no memory.
     pub fn start_unhealthy<W: Wait>(self, rt: &W) -> HealthRegistry<R, C>
         ensures same { (result.start ≡ self.start) × (result.lock ≡ self.lock) }
-        ensures configured { UnderRegistry R.gives self.start (λ x y. Becomes R.gives x (λ events. Configured false ∷ events) y) }
+        ensures configured { UnderRegistry R.gives self.start (λ x y. Grows R.gives x (λ events. Configured false ∷ events) y) }
     {
         self.configure(rt);
         self
@@ -116,7 +115,7 @@ impl<R: KeyRule + Drop, C: HealthCheck + Drop> HealthRegistry<R, C> {
 
     // Has cells begin unhealthy from now on.
     fn configure<W: Wait>(&self, rt: &W)
-        ensures { UnderRegistry R.gives self.now.start (λ x y. Becomes R.gives x (λ events. Configured false ∷ events) y) }
+        ensures { UnderRegistry R.gives self.now.start (λ x y. Grows R.gives x (λ events. Configured false ∷ events) y) }
     {
         let TakenValue { value, seat } = self.take(rt);
         let value = value.start_unhealthy();
@@ -295,7 +294,7 @@ impl<R: KeyRule + Drop, C: HealthCheck + Drop> HealthRegistry<R, C> {
 
     /// Returns whether no number is left for one more view, without taking memory.
     pub fn is_full<W: Wait>(&self, rt: &W) -> bool
-        ensures { SeenIn R.gives self.now.start (λ x. Told R.gives x (λ _ events. IsTrue result ↔ (2 ^ 64 ≤ registered_after events + 1))) }
+        ensures { SeenIn R.gives self.now.start (λ x. HoldsOf R.gives x (λ _ events. IsTrue result ↔ (2 ^ 64 ≤ registered_after events + 1))) }
     {
         let held = self.take(rt);
         let is_full = held.value.is_full();
@@ -355,7 +354,7 @@ impl<R: KeyRule + Drop, C: HealthCheck + Drop> HealthRegistry<R, C> {
 
     /// Marks a view for removal: the next call that applies marks removes it. It takes no memory.
     pub fn remove_view<W: Wait>(&self, rt: &W, id: u64)
-        ensures { UnderRegistry R.gives self.now.start (λ x y. Becomes R.gives x (λ events. Marked id ∷ events) y) }
+        ensures { UnderRegistry R.gives self.now.start (λ x y. Grows R.gives x (λ events. Marked id ∷ events) y) }
     {
         let mut held = self.take(rt);
         held.value.remove_view(id);

@@ -1,7 +1,7 @@
 -- Calls of a group lengthen the history of the registry that it is over.
 use Rattle.std.specs.Prelude.{ℕ, List, ◌∷◌, Result, Ok, Err, OnOk, OnErr}
 use Rattle.lb_select_base.specs.Backends.{Member}
-use Rattle.lb_health_core.specs.Registry.{RegistryValue, IsRegistryAfter}
+use Rattle.lb_health_core.specs.Registry.{RegistryValue, IsRegistryAfter, KeepsHistory}
 use Rattle.lb_health_core.specs.RegistryEvents.{Event}
 use Rattle.lb_health_view.specs.RegistrySide.{registry_updated}
 use Rattle.lb_health_view.specs.ViewEvents as view
@@ -10,7 +10,7 @@ use Rattle.lb_rebuild_core.specs.Stands.{Made}
 use Rattle.lb_rebuild_core.specs.GroupCalls.{IsReleasedWhere, released_where}
 use Rattle.lb_rebuild_core.specs.GroupHistory.{History}
 use Rattle.lb_rebuild_core.specs.GroupStates.{GroupValue, IsFounded, After, views_of}
-use Rattle.lb_threads_core.specs.Registry.{IsRegistryOf, Becomes}
+use Rattle.lb_threads_core.specs.Registry.{IsRegistryOf}
 use Rattle.lb_threads_core.proofs.Histories.{Longer, changed, lengthened, no_more, released, stays}
 
 let_go : {A B : Type 0} (a : Result A B) (id g : ℕ) (views : List ViewEvent) (events : List Event)
@@ -34,7 +34,7 @@ module _ {R : Type 0} {gives : R → Member → Member → Type 0} where
     pub scheduled_later : {A E : Type 0} (r : Result A E) (v : GroupValue C) (members : List Member) {x y : RegistryValue R} → IsFounded v
         → OnOk r ((key_of : Member → Member) (events : List Event) → IsRegistryAfter gives key_of events x
         → After v (λ made e. IsRegistryAfter gives key_of (registry_updated key_of v.view.id members (views_of made e) events) y))
-        → OnErr r (Becomes gives x (λ events. events) y) → IsRegistryOf gives x y
+        → OnErr r (KeepsHistory gives x y) → IsRegistryOf gives x y
     scheduled_later (Ok a) v members p ok err =
         let made = p.0 in
         let e = p.1.0 in

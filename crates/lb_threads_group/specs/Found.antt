@@ -1,9 +1,8 @@
 -- What is known of which backends are ready for the readers of a generation, each at some state of group and registry. Readiness is the
 -- same for all readers of a generation.
-use Rattle.std.specs.Prelude.{◌↔◌, ℕ, Bool, List, IsTrue}
+use Rattle.std.specs.Prelude.{◌↔◌, ℕ, Bool, IsTrue}
 use Rattle.lb_select_base.specs.Backends.{Member}
-use Rattle.lb_health_core.specs.Registry.{IsRegistryAfter}
-use Rattle.lb_health_core.specs.RegistryEvents.{Event}
+use Rattle.lb_health_core.specs.Registry.{HoldsOf}
 use Rattle.lb_health_view.specs.RegistrySide.{IsReady}
 use Rattle.lb_rebuild_core.specs.GroupStates.{After, views_of}
 use Rattle.lb_threads_group.specs.Group.{SeenBeside}
@@ -18,6 +17,5 @@ module _ {C R : Type 0} (gives : R → Member → Member → Type 0) where
   -- whether a backend is ready in the snapshot of a generation
   abbrev pub ReadyAt : SharedValue C R → ℕ → Member → Bool → Type 0
   ReadyAt site g b a =
-      SeenBeside gives site (λ v x. (key_of : Member → Member) (events : List Event)
-      → IsRegistryAfter gives key_of events x
-      → After v (λ made e. IsTrue a ↔ IsReady key_of (views_of made e) events g b))
+      SeenBeside gives site (λ v x. HoldsOf gives x (λ key_of events. After v (λ made e. IsTrue a
+          ↔ IsReady key_of (views_of made e) events g b)))

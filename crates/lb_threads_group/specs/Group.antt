@@ -4,8 +4,7 @@ use Rattle.std.specs.Prelude.{◌≡◌, ◌↔◌, ℕ, Bool, List, [], ◌∷�
 use Rattle.lb_select_base.specs.Backends.{Member}
 use Rattle.lb_select_base.specs.declared.refusal.Refusal.{Refusal}
 use Rattle.lb_rebuild_core.specs.Gate.{GateValue}
-use Rattle.lb_health_core.specs.Registry.{RegistryValue, IsRegistryAfter}
-use Rattle.lb_health_core.specs.RegistryEvents.{Event}
+use Rattle.lb_health_core.specs.Registry.{RegistryValue, HoldsOf}
 use Rattle.lb_health_view.specs.RegistrySide.{IsReady}
 use Rattle.lb_rebuild_core.specs.SlotsHistory.{newest}
 use Rattle.lb_rebuild_core.specs.Values.{Task, BuiltValue, RetiredValue, PermitValue, ReaderValue, configs_of}
@@ -101,9 +100,8 @@ module _ {C R : Type 0} (gives : R → Member → Member → Type 0) where
   -- whether a backend is ready in the newest membership, at some state of the group
   abbrev pub NewestReadyUnder : SharedValue C R → Member → Bool → Type 0
   NewestReadyUnder site b a =
-      SeenBeside site (λ v x. (key_of : Member → Member) (events : List Event)
-      → IsRegistryAfter gives key_of events x
-      → After v (λ made e. IsTrue a ↔ IsReady key_of (views_of made e) events (newest (slot_events e)) b))
+      SeenBeside site (λ v x. HoldsOf gives x (λ key_of events. After v (λ made e. IsTrue a
+          ↔ IsReady key_of (views_of made e) events (newest (slot_events e)) b)))
 
   abbrev pub ScheduledUnder : SharedValue C R → List Member → List (Member × Bool) → ℕ → Result Scheduled Refusal → Type 0
   ScheduledUnder site members settings now r =

@@ -2,9 +2,8 @@
 use Rattle.std.specs.Prelude.{◌≡◌, ◌⊎◌, ◌^◌, ◌+◌, ◌==◌, ℕ, Bool, true, List, ◌++◌, None, length, map}
 use Rattle.std.specs.List.{AllByRecursion, find}
 use Rattle.lb_select_base.specs.Backends.{Member}
-use Rattle.lb_health_core.specs.Registry.{RegistryValue}
+use Rattle.lb_health_core.specs.Registry.{RegistryValue, Grows}
 use Rattle.lb_health_core.specs.RegistryEvents.{Event, Applied, Configured, Held, Marked, Observed, Registered, Released, Updated}
-use Rattle.lb_threads_core.specs.Registry.{Becomes}
 use Rattle.lb_threads_core.specs.declared.owner.ViewNote.{ViewNote}
 
 -- the note is of one of these views
@@ -27,7 +26,7 @@ module _ {R : Type 0} (gives : R → Member → Member → Type 0) where
   pub record EndsSnapshots (id : ℕ) (x y : RegistryValue R) : Type 0 where
     pub generations : List ℕ
     pub one : y.id ≡ x.id
-    pub becomes : Becomes gives x (λ events. map (λ g. Released id g) generations ++ events) y
+    pub becomes : Grows gives x (λ events. map (λ g. Released id g) generations ++ events) y
     pub all : (find (λ h. h.view == id) y.table.held ≡ None) ⊎ (length generations + 1 ≡ 2 ^ 64)
 
   -- some of these views were marked, and lives of their snapshots ended; nothing else happened
@@ -35,4 +34,4 @@ module _ {R : Type 0} (gives : R → Member → Member → Type 0) where
     pub events : List Event
     pub one : y.id ≡ x.id
     pub leaving : AllByRecursion (IsLeaving is_of) events
-    pub becomes : Becomes gives x (λ earlier. events ++ earlier) y
+    pub becomes : Grows gives x (λ earlier. events ++ earlier) y

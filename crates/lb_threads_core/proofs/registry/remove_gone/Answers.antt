@@ -3,10 +3,9 @@ use Rattle.std.proofs.Common.{rules, ◌≡◌, ◌∙◌, ◌∷◌, ◌++◌, 
 use Rattle.std.specs.Arc.{arc_value}
 use Rattle.std.specs.List.{AllByRecursion}
 use Rattle.lb_select_base.specs.Backends.{Member}
-use Rattle.lb_health_core.specs.Registry.{IsRegistryAfter, RegistryValue}
+use Rattle.lb_health_core.specs.Registry.{IsRegistryAfter, RegistryValue, Grows}
 use Rattle.lb_health_core.specs.RegistryEvents.{Event, Marked, Released}
 use Rattle.lb_threads_core.specs.Internal.Leaving.{EndsSnapshots, HaveLeft, IsLeaving, IsNoteOf}
-use Rattle.lb_threads_core.specs.Registry.{Becomes}
 use Rattle.lb_threads_core.specs.declared.owner.ViewNote.{ViewNote}
 use Rattle.lb_threads_core.proofs.registry.remove_gone.Goals as goal
 
@@ -20,7 +19,7 @@ releases-leave is_of id is (g ∷ gs) rest told = (is, releases-leave is_of id i
 
 module _ {R : Type 0} {gives : R → Member → Member → Type 0} where
   left-more : (is_of : ℕ → Bool) (id : ℕ) → is_of id ≡ true → {x y z w : RegistryValue R} → HaveLeft gives is_of x y
-      → Becomes gives y (λ events. Marked id ∷ events) z → z.id ≡ y.id → EndsSnapshots gives id z w → HaveLeft gives is_of x w
+      → Grows gives y (λ events. Marked id ∷ events) z → z.id ≡ y.id → EndsSnapshots gives id z w → HaveLeft gives is_of x w
   left-more is_of id is {w = w} before marked same released = record {
     events = map (λ g. Released id g) released.generations ++ Marked id ∷ before.events;
     one = released.one ∙ same ∙ before.one;
