@@ -18,7 +18,8 @@ use Rattle.lb_health_view.specs.Snapshots.{ViewValue}
 use Rattle.lb_health_view.specs.ViewEvents as view
 use Rattle.lb_health_view.specs.Views.{IsViewAfter}
 use Rattle.lb_balancer_core.specs.Balancer.{Updated, Set, History, view_events, members_now, tickets_after, after_settings, with_membership}
-use Rattle.lb_balancer_core.specs.Balancer.{ServedValue, Stands, view_cause, update_cause}
+use Rattle.lb_health_view.specs.Causes.{view_cause}
+use Rattle.lb_balancer_core.specs.Balancer.{ServedValue, Stands, update_cause}
 
 -- a setting changes the view alone
 set-view : (b : Bool) (m : Member) (on : Bool) (e : History)

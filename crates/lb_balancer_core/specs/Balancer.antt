@@ -1,15 +1,15 @@
 -- A view with the selector of its newest membership: what happens to it, newest first, and what it is then.
-use Rattle.std.specs.Prelude.{◌≡◌, ◌↔◌, ◌==◌, IsTrue, ◌+◌, ◌^◌, ℕ, Bool, not, nat_le, List, [], ◌∷◌, Option, Some, None, if◌then◌else◌}
+use Rattle.std.specs.Prelude.{◌≡◌, ◌↔◌, IsTrue, ℕ, Bool, List, [], ◌∷◌, Option, None, if◌then◌else◌}
 use Rattle.std.specs.List.{list_any}
 use Rattle.std.specs.Option.{option_or}
 use Rattle.lb_select_base.specs.Backends.{Member, same_member}
 use Rattle.lb_select_base.specs.Memberships.{same_members}
 use Rattle.lb_select_base.specs.Refusals.{memory_apart}
 use Rattle.lb_select_base.specs.declared.refusal.Refusal.{Refusal}
-use Rattle.lb_select_base.specs.declared.refusal.Refusal.TheVariants.{GenerationsExhausted, NoSuch, NumbersExhausted}
 use Rattle.lb_select_base.specs.declared.words.CoreWords.{CoreWords}
 use Rattle.lb_health_core.specs.Registry.{RegistryValue, IsRegistryAfter}
 use Rattle.lb_health_core.specs.RegistryEvents as registry
+use Rattle.lb_health_view.specs.Causes.{view_cause}
 use Rattle.lb_health_view.specs.RegistrySide.{IsReady}
 use Rattle.lb_health_view.specs.Snapshots.{ViewValue}
 use Rattle.lb_health_view.specs.ViewEvents as view
@@ -78,16 +78,6 @@ IsFounded v = (e : History) × Stands e v
 -- what holds after each history that explains it
 abbrev pub After : {C G : Type 0} → ServedValue C G → (History → Type 0) → Type 0
 After v P = (e : History) → Stands e v → P e
-
--- why view and registry refuse another membership, memory apart: the generations are exhausted, the registry has no such view, or
--- no number is left for a cell
-abbrev pub view_cause : (Member → Member) → ℕ → List Member → List registry.Event → List view.ViewEvent → Option Refusal
-view_cause key_of id members events views =
-    if view.generation_after views + 1 == 2 ^ 64 then Some GenerationsExhausted
-    else if not (registry.has_view id (registry.views_after events)) then Some NoSuch
-    else if nat_le (2 ^ 64) (registry.cells_given key_of (registry.Updated id members ∷ registry.Applied ∷ events))
-    then Some NumbersExhausted
-    else None
 
 -- Why a membership is refused, memory apart: another one for what its selector is refused for, and else by view and registry.
 abbrev pub update_cause :

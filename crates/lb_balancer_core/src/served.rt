@@ -15,7 +15,8 @@ ghost use Rattle.lb_health_view.specs.ViewEvents.{ViewEvent, generation_after};
 ghost use Rattle.lb_rebuild_core.specs.GroupCalls.{AcceptsBy, IsMakingRefusal};
 ghost use Rattle.lb_balancer_core.specs.Choices.{Chooses};
 ghost use Rattle.lb_balancer_core.specs.Balancer.{After, Drew, History, IsJudged, Judges, Set, Stands, members_now, update_cause};
-ghost use Rattle.lb_balancer_core.specs.Balancer.{updated, view_cause, view_events};
+ghost use Rattle.lb_balancer_core.specs.Balancer.{updated, view_events};
+ghost use Rattle.lb_health_view.specs.Causes.{view_cause};
 ghost use Rattle.lb_balancer_core.specs.Timings.{Reads};
 
 use lb_health_core::keys::KeyRule;
@@ -330,29 +331,7 @@ fn build<S: BackendSelection, R: KeyRule + Drop>(
 {
     match selector_of::<S>(alloc, members, config) {
         Ok(selector) => Ok(selector),
-        Err(Refusal::OutOfMemory) => Err(cause_without_memory(view, registry, members)),
+        Err(Refusal::OutOfMemory) => Err(view.cause(registry, members)),
         Err(refusal) => Err(refusal),
     }
-}
-
-// Why view and registry refuse another membership, or that memory is refused.
-fn cause_without_memory<R: KeyRule + Drop>(
-    view: &ViewCore,
-    registry: &Registry<R>,
-    members: &BTreeSet<Backend>,
-) -> Refusal
-    ensures { (key_of : Member → Member) (views : List ViewEvent) (events : List Event)
-        → IsViewAfter views view.now → IsRegistryAfter R.gives key_of events registry.now
-        → result ≡ unwrap_or (view_cause key_of view.now.id members.now.keys events views) Refusal.OutOfMemory }
-{
-    if view.generation() == u64::MAX {
-        return Refusal::GenerationsExhausted;
-    }
-    if !registry.has_view(view.id()) {
-        return Refusal::NoSuch;
-    }
-    if registry.lacks_numbers(members) {
-        return Refusal::NumbersExhausted;
-    }
-    Refusal::OutOfMemory
 }

@@ -1,3 +1,4 @@
+pub mod Causes
 pub mod Discoveries
 pub mod Internal
 pub mod Lookups

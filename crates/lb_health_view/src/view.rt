@@ -1,6 +1,6 @@
 //! The view of a registry: a membership in numbered generations, the snapshots that live, and the flags of their backends. Contracts
 //! describe it by the list of its events, newest first.
-ghost use Rattle.std.specs.Prelude.{◌≡◌, ◌≢◌, ◌+◌, ◌<◌, ◌^◌, ◌∷◌, [], All, IfOk, IsOk, OnOk, OnErr};
+ghost use Rattle.std.specs.Prelude.{◌≡◌, ◌≢◌, ◌⊎◌, ◌+◌, ◌<◌, ◌^◌, ◌∷◌, [], All, IfOk, IsOk, OnOk, OnErr, unwrap_or};
 ghost use Rattle.std.specs.Prelude.{IsErrOf, IsSome, IsTrue, MatchOption, Err, List, ℕ, true, false, ◌↔◌, ◌≤◌};
 ghost use Rattle.std.specs.List.{list_any, list_all};
 ghost use Rattle.std.specs.Arc.{arc_value};
@@ -9,6 +9,7 @@ ghost use Rattle.std.specs.BTreeSet.{BTreeSet};
 ghost use Rattle.std.proofs.Common.{Global};
 ghost use Rattle.lb_select_base.specs.Backends.{Member, same_member};
 ghost use Rattle.lb_select_base.specs.Memberships.{same_members};
+ghost use Rattle.lb_health_view.specs.Causes.{IsRegistryRefusal, view_cause};
 ghost use Rattle.lb_health_view.specs.Snapshots.{held_less, at_generation, living, flags_listed, value_at, snapshot_of, IfHead};
 ghost use Rattle.lb_health_view.specs.ViewEvents.{ViewEvent, Shown, Held, Released, Set, generation_after, membership_after, listed};
 ghost use Rattle.lb_health_view.specs.ViewEvents.{flag_after};
@@ -254,6 +255,50 @@ impl ViewCore {
         if !self.lives(generation) {
             registry.release(self.id, generation);
         }
+    }
+
+    /// Returns why the registry refuses the view another membership: `NoSuch` where it has no such view, `NumbersExhausted` where no number
+    /// is left for a cell, and else `OutOfMemory`.
+    ///
+    /// It takes no memory.
+    pub fn registry_cause<R: KeyRule + Drop>(
+        &self,
+        registry: &Registry<R>,
+        members: &BTreeSet<Backend>,
+    ) -> Refusal
+        ensures kind { IsRegistryRefusal result }
+        ensures unknown { HoldsOf R.gives registry.now (λ key_of events. result ≡ Refusal.NoSuch
+            ↔ (has_view self.now.id (views_after events) ≡ false)) }
+        ensures numbers { HoldsOf R.gives registry.now (λ key_of events. has_view self.now.id (views_after events) ≡ true
+            → (result ≡ Refusal.NumbersExhausted
+            ↔ (2 ^ 64 ≤ cells_given key_of (Updated self.now.id members.now.keys ∷ Applied ∷ events)))) }
+    {
+        if !registry.has_view(self.id) {
+            return Refusal::NoSuch;
+        }
+        if registry.lacks_numbers(members) {
+            return Refusal::NumbersExhausted;
+        }
+        Refusal::OutOfMemory
+    }
+
+    /// Returns why view and registry refuse another membership: `GenerationsExhausted` where the newest generation is
+    /// 18446744073709551615, and else as `registry_cause`.
+    ///
+    /// It takes no memory.
+    pub fn cause<R: KeyRule + Drop>(
+        &self,
+        registry: &Registry<R>,
+        members: &BTreeSet<Backend>,
+    ) -> Refusal
+        ensures kind { (result ≡ Refusal.GenerationsExhausted) ⊎ IsRegistryRefusal result }
+        ensures least { HoldsOfBoth R.gives self.now registry.now (λ key_of views events. result
+            ≡ unwrap_or (view_cause key_of self.now.id members.now.keys events views) Refusal.OutOfMemory) }
+    {
+        if self.generation() == u64::MAX {
+            return Refusal::GenerationsExhausted;
+        }
+        self.registry_cause(registry, members)
     }
 
     /// Returns whether a backend is ready in the newest membership: listed, enabled, and its cell kept and healthy.

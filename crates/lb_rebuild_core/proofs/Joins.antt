@@ -29,7 +29,8 @@ use Rattle.lb_health_view.specs.Snapshots.{SnapshotValue, ViewValue}
 use Rattle.lb_health_view.specs.ViewEvents as view
 use Rattle.lb_health_view.specs.ViewEvents.{ViewEvent, generation_after, membership_after}
 use Rattle.lb_health_view.specs.Views.{IsViewAfter, IsViewRefusal}
-use Rattle.lb_rebuild_core.specs.GroupCalls.{with_membership, IsSharedRefusal, Schedules}
+use Rattle.lb_health_view.specs.Causes.{IsRegistryRefusal}
+use Rattle.lb_rebuild_core.specs.GroupCalls.{with_membership, Schedules}
 use Rattle.lb_rebuild_core.specs.GroupHistory.{History, At, slot_events, in_group, hold_events, view_events, members_now, after_settings}
 use Rattle.lb_rebuild_core.specs.GroupStates.{GroupValue, Stands, views_of, SameSite}
 use Rattle.lb_rebuild_core.proofs.Histories.{group-joined, generation-is, members-are, membership-group, membership-view}
@@ -297,7 +298,7 @@ module _ {C : Type 0} where
       → core.StandsFor made (slot_events e) w → Prepares made (slot_events e) members (Ok o) → FitsIfThere w o
       → ((same_members members (membership_after (views_of made e)) ≡ true) → ⊥)
       → (r ≡ refusal.GenerationsExhausted → generation_after (views_of made e) + 1 ≡ 2 ^ 64)
-      → (r ≡ refusal.GenerationsExhausted) ⊎ IsSharedRefusal r
+      → (r ≡ refusal.GenerationsExhausted) ⊎ IsRegistryRefusal r
       → Schedules made e members (Err r)
   refused-schedule made e members w None r s p f same last why =
       absurd (same (ap (same_members members) (members-are (length made.configs) e) ∙ not-false (same_members members (members_now e)) p.1))
@@ -315,7 +316,7 @@ pub error-is : {A : Type 0} (r c : Refusal) → (let one : Result A Refusal = Er
 error-is r c h = cc
 
 pub view-refused : {A : Type 0} (r : Refusal) → (let it : Result A Refusal = Err r in IsViewRefusal it) → (r ≡ refusal.GenerationsExhausted)
-    ⊎ IsSharedRefusal r
+    ⊎ IsRegistryRefusal r
 view-refused {A} r (inl h) = inl (error-is {A = A} r refusal.GenerationsExhausted h)
 view-refused {A} r (inr (inl h)) = inr (inl (error-is {A = A} r refusal.OutOfMemory h))
 view-refused {A} r (inr (inr (inl h))) = inr (inr (inl (error-is {A = A} r refusal.NumbersExhausted h)))

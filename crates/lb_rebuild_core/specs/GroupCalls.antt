@@ -17,6 +17,7 @@ use Rattle.lb_rebuild_core.specs.declared.answers.Ask.{Ask}
 use Rattle.lb_rebuild_core.specs.declared.answers.Publication.{Publication}
 use Rattle.lb_rebuild_core.specs.declared.answers.Selection.{Selection}
 use Rattle.lb_rebuild_core.specs.declared.membership.Scheduled.{Scheduled}
+use Rattle.lb_health_view.specs.Causes.{IsRegistryRefusal}
 use Rattle.lb_health_view.specs.RegistrySide.{registry_released, registry_updated, IsReady}
 use Rattle.lb_health_view.specs.Snapshots.{ViewValue}
 use Rattle.lb_health_view.specs.ViewEvents.{ViewEvent}
@@ -26,11 +27,6 @@ use Rattle.lb_health_core.specs.RegistryEvents as registry
 use Rattle.lb_health_core.specs.RegistryEvents.{Applied, Updated, Marked, cells_given, has_view, views_after}
 use Rattle.lb_rebuild_core.specs.GroupHistory.{History, Shown, slot_events, in_group, after_settings}
 use Rattle.lb_rebuild_core.specs.GroupStates.{GroupValue, Stands, After, Becomes, SameSite, views_of}
-
--- a membership that another call below may refuse for memory, because no number is left for a cell, or because no such view is
--- registered
-abbrev pub IsSharedRefusal : Refusal → Type 0
-IsSharedRefusal e = (e ≡ OutOfMemory) ⊎ ((e ≡ NumbersExhausted) ⊎ (e ≡ NoSuch))
 
 -- A group is refused for the least cause of its configurations; where there is none, for memory or because no number is left.
 abbrev pub IsMakingRefusal : {A : Type 0} → Option Refusal → Result A Refusal → Type 0
@@ -42,7 +38,7 @@ IsMakingRefusal cause (Err e) = (cause ≡ Some e) ⊎ ((memory_apart cause ≡ 
 abbrev pub IsRefusedFor : core.History → List Member → Refusal → Type 0
 IsRefusedFor h members r =
     (slots.schedule_refusal members h ≡ Some r)
-    ⊎ ((slots.schedule_refusal members h ≡ None) × (slots.is_change members h ≡ true) × IsSharedRefusal r)
+    ⊎ ((slots.schedule_refusal members h ≡ None) × (slots.is_change members h ≡ true) × IsRegistryRefusal r)
 
 -- As for a group alone; the registry of another membership may refuse it too.
 abbrev pub Schedules : {C : Type 0} → Made C → History → List Member → Result Scheduled Refusal → Type 0

@@ -18,7 +18,7 @@ ghost use Rattle.lb_health_view.specs.Views.{IsViewAfter};
 ghost use Rattle.lb_health_core.specs.Registry.{HoldsOf, Grows, KeepsHistory};
 ghost use Rattle.lb_health_core.specs.RegistryEvents.{Registered, Applied, Updated, registered_after, views_after};
 ghost use Rattle.lb_health_core.specs.RegistryEvents.{has_view, cells_given};
-ghost use Rattle.lb_rebuild_core.specs.GroupCalls.{IsSharedRefusal, IsRefusedFor, served_at, Judges, IsJudged, AcceptsBy};
+ghost use Rattle.lb_rebuild_core.specs.GroupCalls.{IsRefusedFor, served_at, Judges, IsJudged, AcceptsBy};
 ghost use Rattle.lb_rebuild_core.specs.GroupCalls.{IsMakingRefusal, IsScheduled, IsCancelled, IsAsked, IsFailed, IsPublished, IsAbandoned};
 ghost use Rattle.lb_rebuild_core.specs.GroupCalls.{IsWorkerLost, IsEntered, IsReadyFor, IsTicketDrawn, IsLeft, IsTaken, IsReported};
 ghost use Rattle.lb_rebuild_core.specs.GroupCalls.{after_select};
@@ -561,28 +561,6 @@ impl<S: BackendSelection> GroupCore<S> {
     }
 }
 
-// Why another membership is refused by the view where memory is refused: the least of the causes that apply.
-fn cause_without_memory<R: KeyRule + Drop>(
-    view: &ViewCore,
-    registry: &Registry<R>,
-    discovered: &BTreeSet<Backend>,
-) -> Refusal
-    ensures shared { IsSharedRefusal result }
-    ensures unknown { HoldsOf R.gives registry.now (λ key_of events. result ≡ Refusal.NoSuch
-        ↔ (has_view view.now.id (views_after events) ≡ false)) }
-    ensures numbers { HoldsOf R.gives registry.now (λ key_of events. has_view view.now.id (views_after events) ≡ true
-        → (result ≡ Refusal.NumbersExhausted
-        ↔ (2 ^ 64 ≤ cells_given key_of (Updated view.now.id discovered.now.keys ∷ Applied ∷ events)))) }
-{
-    if !registry.has_view(view.id()) {
-        return Refusal::NoSuch;
-    }
-    if registry.lacks_numbers(discovered) {
-        return Refusal::NumbersExhausted;
-    }
-    Refusal::OutOfMemory
-}
-
 // Gets at hand what the group takes for a membership; refused for memory only where no other cause applies.
 fn prepared<S: BackendSelection, R: KeyRule + Drop>(
     alloc: Global,
@@ -609,7 +587,7 @@ fn prepared<S: BackendSelection, R: KeyRule + Drop>(
 {
     match group.prepare(alloc, discovered) {
         Ok(prepared) => Ok(prepared),
-        Err(Refusal::OutOfMemory) => Err(cause_without_memory(view, registry, discovered)),
+        Err(Refusal::OutOfMemory) => Err(view.registry_cause(registry, discovered)),
         Err(refusal) => Err(refusal),
     }
 }
