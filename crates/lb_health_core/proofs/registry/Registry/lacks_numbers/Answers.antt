@@ -4,7 +4,7 @@ use Rattle.lb_health_core.proofs.registry.Registry.lacks_numbers.Goals as goal
 
 pub returns : goal.returns
 returns g c =
-    λ key_of events id r has.
+    λ key_of events r id has.
     let now = seen g.R.KeyRule.gives key_of events _ _ c.self.view_is r in
     lacks_told key_of events id c.args.members.now.keys c.self.inside.views.items _ (table_value c.self.inside.table) _ now.state
     c.lacks_numbers.ensures.ordered has
