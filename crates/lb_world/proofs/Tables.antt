@@ -1,5 +1,6 @@
 -- What a step leaves of a world, table by table; then the steps at a registry, those that make a registry or a gate, and those
 -- of readers. A world is in the state after each run that gives the same as its history.
+use Rattle.lb_rebuild_core.specs.GroupCalls.{IsEntered, IsLeft, IsReadyFor}
 use Rattle.lb_rebuild_core.specs.SlotsCalls.{Enters, enter_refusal}
 use Rattle.lb_rebuild_core.specs.Values.{ReaderValue}
 use Rattle.lb_world.proofs.Absent.{config-made}
@@ -31,13 +32,13 @@ use Rattle.lb_world.proofs.Words.{ap, ap2, Applied, arith, at_one, at_slot, Befo
 use Rattle.lb_world.proofs.Words.{configs_of, entered_of, entries, EntryIs, EntryNext, EntryValue, eq-eqb, Err, Event, false}
 use Rattle.lb_world.proofs.Words.{gates, GateValue, get-kept, get-pushed, group-of, group_at, slot_events, held_of, OpenReaderValue}
 use Rattle.lb_world.proofs.Words.{History, inl}
-use Rattle.lb_world.proofs.Words.{inr, is_at, is_out, IsOwnReader, IsReady, IsRegistryAfter, IsRun, IsTrue, group_events, Judges, key_at}
+use Rattle.lb_world.proofs.Words.{inr, is_at, is_out, IsOwnReader, IsRegistryAfter, IsRun, IsTrue, group_events, Judges, key_at}
 use Rattle.lb_world.proofs.Words.{key_by, key_gives, key_in, key_of, length, length-map, length-set, length_push, List, load_of, lt-ltb}
 use Rattle.lb_world.proofs.Words.{made, made_at, made_of, map, map-append, marks_start_none, Meaning, Member, nat_lt, ne_eqb}
 use Rattle.lb_world.proofs.Words.{None, none-some, not, Ok, Option, option_map, origin, others-stay, past, past_of, permit_after}
 use Rattle.lb_world.proofs.Words.{refl, Refusal, refused-alike, registries, registry_at, registry_events, RegistryMade, RegistryValue}
 use Rattle.lb_world.proofs.Words.{Result, same_member, same_Some, served, set_found, site, slice_get, slice_get_past, slice_get_within}
-use Rattle.lb_world.proofs.Words.{slice_set, Some, Stands, Step, subst, sym, there-at, true, unrefused, views_of, with_core}
+use Rattle.lb_world.proofs.Words.{slice_set, Some, Stands, Step, subst, sym, there-at, true, unrefused, with_core}
 use Rattle.lb_world.proofs.Words.{without_memory, work, worked, works_at, WorldRule, WorldValue, ℕ, at-place, each-push, each-set}
 use Rattle.lb_world.proofs.Words.{get_other, get_set, set-same, there}
 use Rattle.lb_world.proofs.Entries.{at-group, gate-here, key-here, next, registry-here, taken, config-here, Moves, next-core, next-refused}
@@ -549,13 +550,15 @@ module _ {C : Type 0} {M : Meaning C} {w : WorldValue C} {h : History C} (s : St
 
         -- a reader enters, with the group and the list of readers that the calls left
         pub entered-now : (t : ℕ) (d : EntryValue C) (rs : List (Option (OpenReaderValue C))) (q : ReaderValue C) → d ≡ with_core d.core e
-            → rs ≡ w.readers ++ Some (record { group = g; reader = q }) ∷ [] → t ≡ length w.readers
-            → Moves e (group.At slot slots.Entered ∷ group_events g h) d.core
-            → Enters (site e.core) (group.slot_events (group_events g h)) slot (Ok q) → IsOwnReader d.core q
+            → rs ≡ w.readers ++ Some (record { group = g; reader = q }) ∷ [] → t ≡ length w.readers → IsEntered e.core slot (Ok q) d.core
             → Stands M (record w { groups = slice_set w.groups g d; readers = rs }) ((Step.enter g slot, Answer.Reader t q.generation) ∷ h)
-        entered-now t d rs q rest grown number moves answers own =
+        entered-now t d rs q rest grown number entered =
             let st : Step C = Step.enter g slot in
             let a = Answer.Reader t q.generation in
+            let before = (s.each g e there_).core_is in
+            let moves : Moves e (group.At slot slots.Entered ∷ group_events g h) d.core = (entered.site, entered.stands _ _ before) in
+            let answers : Enters (site e.core) (group.slot_events (group_events g h)) slot (Ok q) = entered.answers _ _ before in
+            let own : IsOwnReader d.core q = entered.own in
             let is : q.generation ≡ served (past g slot h) = answers.2 ∙ ap (λ p. served (past_of slot p)) (group-of g h)
             in
             let right : Answers M h st a = inl (ap2 Answer.Reader number is ∙ sym enters-as) in
@@ -581,11 +584,13 @@ module _ {C : Type 0} {M : Meaning C} {w : WorldValue C} {h : History C} (s : St
 
         -- the core refused it for memory
         pub refused-now : (f : Refusal) (d : EntryValue C) (rs : List (Option (OpenReaderValue C))) → d ≡ with_core d.core e
-            → rs ≡ w.readers
-            → Moves e (group_events g h) d.core → Enters (site e.core) (group.slot_events (group_events g h)) slot (Err f)
+            → rs ≡ w.readers → IsEntered e.core slot (Err f) d.core
             → Stands M (record w { groups = slice_set w.groups g d; readers = rs }) ((Step.enter g slot, Answer.Refused f) ∷ h)
-        refused-now f d rs rest kept moves refused =
+        refused-now f d rs rest kept entered =
             let st : Step C = Step.enter g slot in
+            let before = (s.each g e there_).core_is in
+            let moves : Moves e (group_events g h) d.core = (entered.site, entered.stands _ _ before) in
+            let refused : Enters (site e.core) (group.slot_events (group_events g h)) slot (Err f) = entered.answers _ _ before in
             let within = cond_some (nat_lt slot (length (configs_of e.core.group))) _ x (sym to ∙ some) in
             let none : enter_refusal (site e.core) slot (group.slot_events (group_events g h)) ≡ None =
             rw (within.0, ne_eqb _ 18446744073709551615 (λ is. left (sym within.1 ∙ is))) refl in
@@ -632,12 +637,13 @@ module _ {C : Type 0} {M : Meaning C} {w : WorldValue C} {h : History C} (s : St
 
   -- a reader leaves
   pub left-now : (t : ℕ) (r : OpenReaderValue C) (e d : EntryValue C) → slice_get w.readers t ≡ Some (Some r)
-      → slice_get w.groups r.group ≡ Some e → d ≡ with_core d.core e
-      → Moves e (group.At r.reader.slot (slots.Left r.reader.generation) ∷ group_events r.group h) d.core
+      → slice_get w.groups r.group ≡ Some e → d ≡ with_core d.core e → IsLeft e.core r.reader (Ok tt) d.core
       → Stands M (record w { groups = slice_set w.groups r.group d; readers = slice_set w.readers t None })
       ((Step.leave t, Answer.Left r.reader.generation) ∷ h)
-  left-now t r e d there_ in_ rest moves =
+  left-now t r e d there_ in_ rest left =
       let at = entered-in s t (Some r) there_ in
+      let moves : Moves e (group.At r.reader.slot (slots.Left r.reader.generation) ∷ group_events r.group h) d.core =
+      (left.site, left.stands _ _ (s.each r.group e in_).core_is) in
       let st : Step C = Step.leave t in
       let a = Answer.Left r.reader.generation in
       let here_ : group_at h st ≡ Some r.group = ap group_in at in
@@ -657,7 +663,7 @@ module _ {C : Type 0} {M : Meaning C} {w : WorldValue C} {h : History C} (s : St
   -- readiness in the generation that a reader reads
   pub ready-next : (t : ℕ) (b : Member) (is : Bool) (r : OpenReaderValue C) (e : EntryValue C) (u : RegistryValue WorldRule)
       → slice_get w.readers t ≡ Some (Some r) → slice_get w.groups r.group ≡ Some e → slice_get w.registries e.registry ≡ Some u
-      → Tells u (λ k es. stands.After e.core (λ made joins. IsTrue is ↔ IsReady k (views_of made joins) es r.reader.generation b))
+      → IsReadyFor key_gives e.core u r.reader b is
       → Stands M w ((Step.ready t (Some b), Answer.Ready is) ∷ h)
   ready-next t b is r e u there_ in_ registry-there told =
       let own = s.each r.group e in_ in

@@ -6,7 +6,7 @@ pub use Rattle.lb_rebuild_core.specs.SlotsCalls.{at_slot}
 pub use Rattle.lb_rebuild_core.specs.SlotsHistory.{At, granted, granted_members, members_of, newest, past_of, served}
 pub use Rattle.lb_rebuild_core.specs.SlotCalls.{ask_told}
 pub use Rattle.lb_rebuild_core.specs.Values.{Task, configs_of}
-pub use Rattle.lb_health_view.specs.RegistrySide.{IsReady, settings_of}
+pub use Rattle.lb_health_view.specs.RegistrySide.{settings_of}
 pub use Rattle.lb_world.proofs.Accepted.{right_answer}
 pub use Rattle.lb_world.proofs.Counting.{there-at}
 pub use Rattle.lb_world.proofs.Extras.{get-kept}

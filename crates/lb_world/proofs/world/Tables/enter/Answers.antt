@@ -44,8 +44,7 @@ returns-in-Ok-enter g c =
     (λ h s.
     entered-now s c.args.group _ at c.args.slot _ c.readers.ensures _ c.in-Some.is
     (λ is. omega (arith, is, c.len-number.ensures, c.if-number.false)) (λ is. omega (arith, is, c.if-readers.false)) _ c.enter.new.self _
-    c.in-Ok-enter.reader c.enter.ensures.rest grown last (c.enter.ensures.site, c.in-Ok-enter.ensures.stands _ _ (s.each _ _ at).core_is)
-    (c.in-Ok-enter.ensures.answers _ _ (s.each _ _ at).core_is) c.in-Ok-enter.ensures.own)
+    c.in-Ok-enter.reader c.enter.ensures.rest grown last c.in-Ok-enter.ensures.entered)
 
 pub returns-in-Err : goal.returns-in-Err
 returns-in-Err g c =
@@ -54,5 +53,4 @@ returns-in-Err g c =
     refused-now s c.args.group _ at c.args.slot _ c.readers.ensures _ c.in-Some.is
     (λ is. omega (arith, is, c.len-number.ensures, c.if-number.false)) (λ is. omega (arith, is, c.if-readers.false)) c.in-Err.refusal
     c.enter.new.self _
-    c.enter.ensures.rest c.reserve.ensures.items (c.enter.ensures.site, c.in-Err.ensures.stands _ _ (s.each _ _ at).core_is)
-    (c.in-Err.ensures.answers _ _ (s.each _ _ at).core_is)
+    c.enter.ensures.rest c.reserve.ensures.items c.in-Err.ensures.entered

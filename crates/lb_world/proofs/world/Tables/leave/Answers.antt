@@ -34,5 +34,4 @@ returns g c =
     let in_ = entry-of c.requires.founded.stands c.args.reader _ reader refl c.index_mut-entry.ensures.value in
     rw (c.replace.ensures.after, c.generation-generation.ensures)
     (λ h s.
-    left-now s c.args.reader _ _ c.leave.new.self reader in_ c.leave.ensures.rest
-    (c.leave.ensures.site, c.leave.ensures.stands _ _ (s.each _ _ in_).core_is))
+    left-now s c.args.reader _ _ c.leave.new.self reader in_ c.leave.ensures.rest c.leave.ensures.left)
