@@ -43,7 +43,16 @@ absent_specs() {
         [ -e "crates/$file.antt" ] || echo "there is no crates/$file.antt"
     done
 }
-example_of_readme() { diff <(awk '/^```rust$/ { on = 1; next } /^```$/ { on = 0 } on' README.md) crates/lb_example/src/main.rt; }
+# README's example is lb_example's first one with a `main`.
+example_of_readme() {
+    diff <(awk '/^```rust$/ { on = 1; next } /^```$/ { on = 0 } on' README.md) - <<EOF
+$(cat crates/lb_example/src/first.rt)
+
+fn main(rt: HostRuntime) -> Result<(), anyhow::Error> {
+    run(&rt, pingora_load_balancing::health_check::TcpHealthCheck::new(rt))
+}
+EOF
+}
 # Documents that a document names and that aren't there.
 absent_documents() {
     local file

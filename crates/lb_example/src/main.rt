@@ -1,31 +1,40 @@
-//! A balancer over two backends, of which one listens. Its run finds out which, and the requests go there.
+//! Three programs over the facade, each in a file that a reader can copy from its top to its bottom. `lb_example first`,
+//! `lb_example threads` or `lb_example groups` runs one of them; without a word each is run in turn.
 #![tactic(auto)]
 
-use pingora_load_balancing::background::{RuntimeClock, shutdown_pair};
-use pingora_load_balancing::discovery::BoxedDiscovery;
-use pingora_load_balancing::health_check::{NoRule, Rule, TcpHealthCheck};
-use pingora_load_balancing::prelude::{LoadBalancer, RoundRobin};
-use std::net::TcpListener;
+mod first;
+mod groups;
+mod threads;
 
-// A balancer in turn, whose backends are checked over TCP.
-type Balancer = LoadBalancer<RoundRobin, BoxedDiscovery, Rule<NoRule>, TcpHealthCheck<HostRuntime>>;
+use anyhow::{Error, bail};
+use pingora_load_balancing::health_check::TcpHealthCheck;
+use std::env;
+use std::rt::Env;
 
-fn main(rt: HostRuntime) -> Result<(), anyhow::Error> {
-    let alloc = rt.alloc();
-    let server = TcpListener::bind(&rt, "127.0.0.1:0")?;
-    let listening = format!(in alloc; "{}", server.local_addr()?)?;
-    let texts = [listening.as_str(), "127.0.0.1:1"];
-    let mut clock = RuntimeClock::new(&rt);
-    let balancer = Balancer::try_from_iter(&rt, alloc, &rt, texts.iter().copied(), &mut clock)?;
-    balancer.set_health_check(&rt, TcpHealthCheck::new(rt))?;
-    let (_signal, watch) = shutdown_pair(alloc)?;
-    // Discovers and checks once, as no frequency is set; with one, it does so until the signal sends the end.
-    balancer.run(&rt, alloc, &mut clock, &watch, None);
-    let mut found = 0u32;
-    for _ in 0..4 {
-        let backend = balancer.select(&rt, alloc, b"", 16)?;
-        found = found.saturating_add(u32::from(backend.is_some()));
+// Whether each of the three is to be run, in turn: the one that the first word names, or without a word all.
+fn wanted<R: Env + AllocGlobal>(rt: &R) -> Result<[bool; 3], Error> {
+    let words: Vec<String> = env::args(rt)?.skip(1).collect(rt.alloc())?;
+    let Some((word, _)) = words.split_first() else {
+        return Ok([true; 3]);
+    };
+    match word.as_str() {
+        "first" => Ok([true, false, false]),
+        "threads" => Ok([false, true, false]),
+        "groups" => Ok([false, false, true]),
+        _ => bail!("usage: lb_example [first | threads | groups]"),
     }
-    println!(rt; "{found} of 4 requests found a backend")?;
+}
+
+fn main(rt: HostRuntime) -> Result<(), Error> {
+    let [runs_first, runs_threads, runs_groups] = wanted(&rt)?;
+    if runs_first {
+        first::run(&rt, TcpHealthCheck::new(rt))?;
+    }
+    if runs_threads {
+        threads::run(&rt, TcpHealthCheck::new(rt))?;
+    }
+    if runs_groups {
+        groups::run(&rt, TcpHealthCheck::new(rt))?;
+    }
     Ok(())
 }

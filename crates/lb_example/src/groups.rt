@@ -7,7 +7,7 @@ use pingora_load_balancing::background::{
     HealthCheckService, RuntimeClock, ShutdownSignal, ShutdownWatch, shutdown_pair,
 };
 use pingora_load_balancing::discovery::{BoxedDiscovery, DiscoverySource, Static};
-use pingora_load_balancing::health_check::{HealthCheck, NoRule, Rule, TcpHealthCheck};
+use pingora_load_balancing::health_check::{HealthCheck, NoRule, Rule};
 use pingora_load_balancing::selection::RoundRobin;
 use pingora_load_balancing::{Backends, HealthRegistry, LoadBalancerGroup, SelectorRebuildGate};
 use std::alloc::Global;
@@ -137,25 +137,32 @@ where
     Ok(())
 }
 
-fn main(rt: HostRuntime) -> Result<(), anyhow::Error> {
+/// Runs two groups over one registry with this check and one gate, and prints how many servers their requests went to: with all servers,
+/// without the one of both, with all again.
+pub fn run<R, C>(rt: &R, check: C) -> Result<(), anyhow::Error>
+where
+    R: Log + Net + Threads + Wait + Clock + Print,
+    R: AllocGlobal + Copy + Send + Sync + Drop + 'static,
+    C: HealthCheck + Drop + Send + Sync + 'static,
+{
     let alloc = rt.alloc();
-    let first = TcpListener::bind(&rt, "127.0.0.1:0")?;
-    let both = TcpListener::bind(&rt, "127.0.0.1:0")?;
-    let last = TcpListener::bind(&rt, "127.0.0.1:0")?;
+    let first = TcpListener::bind(rt, "127.0.0.1:0")?;
+    let both = TcpListener::bind(rt, "127.0.0.1:0")?;
+    let last = TcpListener::bind(rt, "127.0.0.1:0")?;
     let first_text = format!(in alloc; "{}", first.local_addr()?)?;
     let both_text = format!(in alloc; "{}", both.local_addr()?)?;
     let last_text = format!(in alloc; "{}", last.local_addr()?)?;
     let (mut signal, watch) = shutdown_pair(alloc)?;
     let gate = Arc::new(alloc, SelectorRebuildGate::new(alloc)?)?;
-    let registry: Registry<TcpHealthCheck<HostRuntime>> = HealthRegistry::new(alloc)?;
+    let registry: Registry<C> = HealthRegistry::new(alloc)?;
     let registry = Arc::new(alloc, registry)?;
-    registry.set_health_check(&rt, TcpHealthCheck::new(rt))?;
+    registry.set_health_check(rt, check)?;
     let mut service = HealthCheckService::new(Arc::try_clone(&registry)?);
     service.health_check_frequency = Some(100_000_000);
     let texts = [first_text.as_str(), both_text.as_str()];
-    let one = group_of(rt, texts, &registry, &gate)?;
+    let one = group_of(*rt, texts, &registry, &gate)?;
     let texts = [both_text.as_str(), last_text.as_str()];
-    let other = group_of(rt, texts, &registry, &gate)?;
+    let other = group_of(*rt, texts, &registry, &gate)?;
     let groups = [one, other];
-    run_beside(&rt, &service, &groups, both, &mut signal, &watch)
+    run_beside(rt, &service, &groups, both, &mut signal, &watch)
 }

@@ -6,7 +6,7 @@ use pingora_load_balancing::background::{
     RuntimeClock, ShutdownSignal, ShutdownWatch, shutdown_pair,
 };
 use pingora_load_balancing::discovery::BoxedDiscovery;
-use pingora_load_balancing::health_check::{HealthCheck, NoRule, Rule, TcpHealthCheck};
+use pingora_load_balancing::health_check::{HealthCheck, NoRule, Rule};
 use pingora_load_balancing::prelude::{LoadBalancer, RoundRobin};
 use std::collections::BTreeSet;
 use std::net::{Net, OpenListener, TcpListener};
@@ -98,23 +98,23 @@ where
     Ok(())
 }
 
-fn main(rt: HostRuntime) -> Result<(), anyhow::Error> {
+/// Runs a balancer with this check while threads make requests, and prints how many servers those went to: with two servers, with one,
+/// with two again.
+pub fn run<R, C>(rt: &R, check: C) -> Result<(), anyhow::Error>
+where
+    R: Log + Net + Threads + Wait + Clock + Print + AllocGlobal + Sync,
+    C: HealthCheck + Drop + Send + Sync,
+{
     let alloc = rt.alloc();
-    let first = TcpListener::bind(&rt, "127.0.0.1:0")?;
-    let second = TcpListener::bind(&rt, "127.0.0.1:0")?;
+    let first = TcpListener::bind(rt, "127.0.0.1:0")?;
+    let second = TcpListener::bind(rt, "127.0.0.1:0")?;
     let one_text = format!(in alloc; "{}", first.local_addr()?)?;
     let other_text = format!(in alloc; "{}", second.local_addr()?)?;
     let texts = [one_text.as_str(), other_text.as_str()];
     let (mut signal, watch) = shutdown_pair(alloc)?;
-    let mut clock = RuntimeClock::new(&rt);
-    let mut balancer: Balancer<TcpHealthCheck<HostRuntime>> = LoadBalancer::try_from_iter(
-        &rt,
-        alloc,
-        &rt,
-        texts.iter().copied(),
-        &mut clock,
-    )?;
-    balancer.set_health_check(&rt, TcpHealthCheck::new(rt))?;
+    let mut clock = RuntimeClock::new(rt);
+    let mut balancer = Balancer::try_from_iter(rt, alloc, rt, texts.iter().copied(), &mut clock)?;
+    balancer.set_health_check(rt, check)?;
     balancer.health_check_frequency = Some(100_000_000);
-    run_beside(&rt, &balancer, second, &mut signal, &watch)
+    run_beside(rt, &balancer, second, &mut signal, &watch)
 }
