@@ -4,5 +4,6 @@ mod Kepts
 mod Memberships
 mod OfTexts
 mod Parted
+mod Refused
 mod Renewals
 mod Served

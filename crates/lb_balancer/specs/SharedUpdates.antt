@@ -1,14 +1,19 @@
 -- What is known of the update of a balancer that threads share: what it read of the clock, and why it is refused; and how the sleep of one
 -- that is driven ends.
-use Rattle.std.specs.Prelude.{◌≡◌, ◌⊎◌, ℕ, Bool, List, length, Option, Some, ◌≤◌}
+use Rattle.std.specs.Prelude.{◌≡◌, ◌⊎◌, ℕ, Bool, List, length, Option, Some, None, unwrap_or, ◌≤◌}
 use Rattle.lb_select_base.specs.Backends.{Member}
 use Rattle.lb_select_base.specs.Refusals.{memory_apart}
 use Rattle.lb_select_base.specs.declared.refusal.Refusal.{Refusal}
-use Rattle.lb_select_base.specs.declared.refusal.Refusal.TheVariants.{Discovery, OutOfMemory, GenerationsExhausted, NoSuch}
-use Rattle.lb_select_base.specs.declared.refusal.Refusal.TheVariants.{NumbersExhausted}
+use Rattle.lb_select_base.specs.declared.refusal.Refusal.TheVariants.{Discovery, OutOfMemory, GenerationsExhausted}
+use Rattle.lb_health_core.specs.Registry.{RegistryValue}
+use Rattle.lb_health_view.specs.Causes.{IsRegistryRefusal, view_cause}
 use Rattle.lb_health_view.specs.Discoveries.{Discovers, Found, MayFault, MayLackMemory}
+use Rattle.lb_health_view.specs.Snapshots.{ViewValue}
+use Rattle.lb_health_view.specs.Views.{HoldsOfBoth}
 use Rattle.lb_balancer_core.specs.Timings.{Reads}
-use Rattle.lb_balancer.specs.History.{BalancerValue, TakesIn, UnderServing}
+use Rattle.lb_threads_core.specs.Registry.{IsRegistryOf}
+use Rattle.lb_balancer.specs.History.{BalancerValue, IsServedBy, TakesIn, UnderServing}
+use Rattle.lb_balancer.specs.Shown.{ServingValue}
 use Rattle.lb_background.specs.declared.event.Event.{Event}
 use Rattle.lb_background.specs.declared.event.Event.TheVariants as on
 
@@ -23,22 +28,34 @@ pub record IsSharedUpdated {D C R : Type 0} (finds : D → Found → Type 0) (b 
   pub discovered : Discovers finds b.discovery members settings
   pub taken : UnderServing b (TakesIn members settings)
 
--- view or registry have no room for a membership, or memory was refused
-abbrev pub IsRoomRefusal : Refusal → Type 0
-IsRoomRefusal r = (r ≡ GenerationsExhausted) ⊎ ((r ≡ NoSuch) ⊎ ((r ≡ NumbersExhausted) ⊎ (r ≡ OutOfMemory)))
+-- the least cause for which view and registry refuse another membership, whatever they have been through, or where none applies memory
+abbrev pub IsLeastCause : {R : Type 0} → (R → Member → Member → Type 0) → ViewValue → RegistryValue R → List Member → Refusal → Type 0
+IsLeastCause gives v x members r =
+    HoldsOfBoth gives v x (λ key_of views events. r ≡ unwrap_or (view_cause key_of v.id members events views) OutOfMemory)
 
--- why a membership is refused: it makes no selector, for this cause, or there is no room for it
-abbrev pub IsBuildRefusal : Option Refusal → Refusal → Type 0
-IsBuildRefusal build r = (memory_apart build ≡ Some r) ⊎ IsRoomRefusal r
+module _ {D C R : Type 0} (gives : R → Member → Member → Type 0) (b : BalancerValue D C R) (members : List Member) where
+  -- At some state of what the balancer serves and of its registry, view and registry refuse the membership for this: the least cause that
+  -- applies there, and memory only where none does.
+  pub record IsRoomRefusal (r : Refusal) : Type 0 where
+    pub kind : (r ≡ GenerationsExhausted) ⊎ IsRegistryRefusal r
+    pub served : ServingValue C
+    pub was_served : IsServedBy b served
+    pub cells : RegistryValue R
+    pub was_registry : IsRegistryOf gives b.registry cells
+    pub least : IsLeastCause gives served.view cells members r
+
+  -- why a membership is refused: it makes no selector, for this cause; and where there is none, view and registry refuse it
+  abbrev pub IsBuildRefusal : Option Refusal → Refusal → Type 0
+  IsBuildRefusal build r = (memory_apart build ≡ Some r) ⊎ ((memory_apart build ≡ None) × IsRoomRefusal r)
 
 -- why an update is refused: the discovery answered a fault or was refused memory, or what it gave is refused
-abbrev pub IsSharedRefusal :
-    {D C R : Type 0} → (D → Found → Type 0) → (List Member → C → Option Refusal) → BalancerValue D C R → Refusal → Type 0
-IsSharedRefusal finds build b r =
+abbrev pub IsSharedRefusal : {D C R : Type 0} → (D → Found → Type 0) → (R → Member → Member → Type 0)
+    → (List Member → C → Option Refusal) → BalancerValue D C R → Refusal → Type 0
+IsSharedRefusal finds gives build b r =
     ((r ≡ Discovery) × MayFault finds b.discovery)
     ⊎ (((r ≡ OutOfMemory) × MayLackMemory finds b.discovery)
     ⊎ ((members : List Member) × (settings : List (Member × Bool)) × Discovers finds b.discovery members settings
-    × IsBuildRefusal (build members b.config) r))
+    × IsBuildRefusal gives b members (build members b.config) r))
 
 -- the sleep ends by the shutdown, or at a reading of the clock that had come to the moment
 abbrev pub EndsSleep : {K : Type 0} → (K → ℕ → K → Type 0) → ℕ → Event → K → Type 0

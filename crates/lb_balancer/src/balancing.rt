@@ -6,11 +6,10 @@ ghost use Rattle.std.specs.Prelude.{◌≡◌, ◌⊎◌, ◌∷◌, [], ℕ, Li
 ghost use Rattle.std.specs.Prelude.{All, Some, None, unwrap_or, false, MatchOption};
 ghost use Rattle.std.specs.Arc.{arc_value};
 ghost use Rattle.lb_select_base.specs.Backends.{Member, same_member};
-ghost use Rattle.lb_select_base.specs.Refusals.{Refuses, memory_apart};
+ghost use Rattle.lb_select_base.specs.Refusals.{memory_apart};
 ghost use Rattle.lb_select_base.specs.Memberships.{same_members};
-ghost use Rattle.lb_rebuild_core.specs.GroupCalls.{AcceptsBy};
+ghost use Rattle.lb_rebuild_core.specs.GroupCalls.{AcceptsBy, IsMakingRefusal};
 ghost use Rattle.lb_health_view.specs.RegistrySide.{settings_of};
-ghost use Rattle.lb_health_view.specs.Views.{IsViewRefusal};
 ghost use Rattle.lb_health_core.specs.Registry.{IsGrowthRefusal};
 ghost use Rattle.lb_balancer_core.specs.Timings.{Reads};
 ghost use Rattle.lb_threads_core.specs.Registry.{IsRegistryOf};
@@ -18,7 +17,7 @@ ghost use Rattle.lb_balancer.specs.History.{IsServedBy, IsServedGeneration, IsSh
 ghost use Rattle.lb_balancer.specs.History.{SetsFlag, TakesIn, UnderServing};
 ghost use Rattle.lb_balancer.specs.Kept.{IsKept};
 ghost use Rattle.lb_balancer.specs.Shown.{ShownValue};
-ghost use Rattle.lb_balancer.specs.SharedUpdates.{IsBuildRefusal, IsSharedRefusal, IsSharedUpdated, ReadsUpdate};
+ghost use Rattle.lb_balancer.specs.SharedUpdates.{IsBuildRefusal, IsRoomRefusal, IsSharedRefusal, IsSharedUpdated, ReadsUpdate};
 
 use crate::kept::KeptShown;
 use crate::origin::{OfGeneration, OfServing, OfShown, Origin};
@@ -155,8 +154,7 @@ impl<
     ) -> Result<Balancing<S, D, R, C>, Refusal>
         ensures made { IfOk result (λ b. (b.discovery ≡ backends.discovery) × (b.config ≡ unwrap_or config S.default_config)
             × (b.first ≡ 0) × (b.registry ≡ backends.registry.start)) }
-        ensures refused { IfErr result (λ r. (memory_apart (S.refusal [] (unwrap_or config S.default_config)) ≡ Some r)
-            ⊎ ((r ≡ Refusal.NumbersExhausted) ⊎ (r ≡ Refusal.OutOfMemory))) }
+        ensures refused { IsMakingRefusal (S.refusal [] (unwrap_or config S.default_config)) result }
     {
         let BackendsParts {
             discovery,
@@ -248,7 +246,7 @@ impl<
     ) -> Result<(), Refusal>
         ensures updated { OnOk result (IsSharedUpdated D.finds self.now) }
         ensures reads { OnOk result (ReadsUpdate K.reads clock.old clock.new) }
-        ensures refused { IfErr result (IsSharedRefusal D.finds S.refusal self.now) }
+        ensures refused { IfErr result (IsSharedRefusal D.finds R.gives S.refusal self.now) }
     {
         let _turn = self.updates.lock(rt);
         let start = clock.now();
@@ -275,7 +273,7 @@ impl<
         ensures taken { OnOk result (UnderServing self.now (TakesIn members.keys (settings_of settings.entries))) }
         ensures reads { OnOk result ((clock.new ≡ clock.old)
             ⊎ ((before : ℕ) × (after : ℕ) × Reads K.reads clock.old (before ∷ after ∷ []) clock.new)) }
-        ensures refused { IfErr result (IsBuildRefusal (S.refusal members.keys self.now.config)) }
+        ensures refused { IfErr result (IsBuildRefusal R.gives self.now members.keys (S.refusal members.keys self.now.config)) }
     {
         let Some((members, settings)) = self.keep(rt, alloc, members, settings) else {
             return Ok(0);
@@ -325,7 +323,8 @@ impl<
     ) -> Result<BuiltSelector<S>, Refusal>
         ensures made { IfOk result (λ b. (S.members (arc_value b.selector) ≡ members.now.keys)
             × (S.built_with (arc_value b.selector) ≡ self.now.config)) }
-        ensures refused { IfErr result (IsBuildRefusal (S.refusal members.now.keys self.now.config)) }
+        ensures free { OnOk result (memory_apart (S.refusal members.now.keys self.now.config) ≡ None) }
+        ensures refused { IfErr result (IsBuildRefusal R.gives self.now members.now.keys (S.refusal members.now.keys self.now.config)) }
     {
         let seed = self.seeds.fetch_add(1, SeqCst);
         match built_of(alloc, members, self.origin.config(), seed) {
@@ -376,7 +375,7 @@ impl<
         requires discovered { MayGive self.now.discovery members.keys (settings_of settings.entries) }
         requires ready { IfSome ready (λ r. (arc_value r).balancer ≡ self.now) }
         ensures taken { OnOk result (UnderServing self.now (TakesIn members.keys (settings_of settings.entries))) }
-        ensures refused { OnErr result (IsViewRefusal result) }
+        ensures refused { IfErr result (IsRoomRefusal R.gives self.now members.keys) }
     {
         let _key = &self.origin;
         let mut held = self.serving.take(rt);
@@ -683,8 +682,7 @@ fn first_built<S: BackendSelection, R: KeyRule + Drop, C: HealthCheck + Drop, W:
 ) -> Result<BuiltSelector<S>, Refusal>
     ensures made { IfOk result (λ b. (S.members (arc_value b.selector) ≡ [])
         × (S.built_with (arc_value b.selector) ≡ unwrap_or config.now S.default_config)) }
-    ensures refused { IfErr result (λ r. (memory_apart (S.refusal [] (unwrap_or config.now S.default_config)) ≡ Some r)
-        ⊎ ((r ≡ Refusal.NumbersExhausted) ⊎ (r ≡ Refusal.OutOfMemory))) }
+    ensures refused { IsMakingRefusal (S.refusal [] (unwrap_or config.now S.default_config)) result }
 {
     match built_of(alloc, &BTreeSet::new(alloc), config, 0) {
         Ok(built) => Ok(built),

@@ -1,8 +1,7 @@
 //! `LoadBalancer`: a balancer that threads share. Selections, updates, checks and readings need a borrow only.
-ghost use Rattle.std.specs.Prelude.{◌≡◌, ◌⊎◌, [], IfOk, IfErr, OnOk, OnErr, Some, None, unwrap_or, false};
+ghost use Rattle.std.specs.Prelude.{◌≡◌, [], IfOk, IfErr, OnOk, OnErr, None, unwrap_or, false};
 ghost use Rattle.std.specs.Arc.{arc_value};
-ghost use Rattle.lb_select_base.specs.Refusals.{memory_apart};
-ghost use Rattle.lb_rebuild_core.specs.GroupCalls.{AcceptsBy};
+ghost use Rattle.lb_rebuild_core.specs.GroupCalls.{AcceptsBy, IsMakingRefusal};
 ghost use Rattle.lb_health_core.specs.Registry.{IsGrowthRefusal};
 ghost use Rattle.lb_balancer.specs.History.{IsServedGeneration, IsShownBy};
 ghost use Rattle.lb_balancer.specs.Selections.{SelectsFrom};
@@ -71,8 +70,7 @@ impl<
             × (b.shared.first ≡ 0) × (b.shared.registry ≡ backends.registry.start)) }
         ensures parts { IfOk result (λ b. (b.owns_checks ≡ backends.owns_checks) × (b.health_check_frequency ≡ None)
             × (b.update_frequency ≡ None) × (b.parallel_health_check ≡ false)) }
-        ensures refused { IfErr result (λ r. (memory_apart (S.refusal [] S.default_config) ≡ Some r)
-            ⊎ ((r ≡ Refusal.NumbersExhausted) ⊎ (r ≡ Refusal.OutOfMemory))) }
+        ensures refused { IsMakingRefusal (S.refusal [] S.default_config) result }
     {
         LoadBalancer::from_backends_with_config(rt, alloc, backends, None)
     }
@@ -96,8 +94,7 @@ impl<
             × (b.shared.registry ≡ backends.registry.start)) }
         ensures parts { IfOk result (λ b. (b.owns_checks ≡ backends.owns_checks) × (b.health_check_frequency ≡ None)
             × (b.update_frequency ≡ None) × (b.parallel_health_check ≡ false)) }
-        ensures refused { IfErr result (λ r. (memory_apart (S.refusal [] (unwrap_or config S.default_config)) ≡ Some r)
-            ⊎ ((r ≡ Refusal.NumbersExhausted) ⊎ (r ≡ Refusal.OutOfMemory))) }
+        ensures refused { IsMakingRefusal (S.refusal [] (unwrap_or config S.default_config)) result }
     {
         let owns_checks = backends.owns_checks();
         let shared = Balancing::new(rt, alloc, backends, config)?;
@@ -128,7 +125,7 @@ impl<
     ) -> Result<(), Refusal>
         ensures updated { OnOk result (IsSharedUpdated D.finds self.now.shared) }
         ensures reads { OnOk result (ReadsUpdate K.reads clock.old clock.new) }
-        ensures refused { IfErr result (IsSharedRefusal D.finds S.refusal self.now.shared) }
+        ensures refused { IfErr result (IsSharedRefusal D.finds R.gives S.refusal self.now.shared) }
     {
         self.shared.update(rt, alloc, clock)
     }

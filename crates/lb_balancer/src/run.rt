@@ -131,7 +131,7 @@ impl<
 
     ghost updates = { λ p r q. OnOk r (IsSharedUpdated D.finds p.balancing.now × ReadsUpdate K.reads p.clock.now q.clock.now)
         × IfOk r (λ n. IsServedGeneration p.balancing.now n)
-        × IfErr r (λ e. IsSharedRefusal D.finds S.refusal p.balancing.now e) };
+        × IfErr r (λ e. IsSharedRefusal D.finds R.gives S.refusal p.balancing.now e) };
 
     ghost checks = { λ p q. q.clock.now ≡ p.clock.now };
 

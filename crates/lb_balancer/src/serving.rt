@@ -1,18 +1,19 @@
 //! What a balancer serves, as a plain value: a view, the selector of its newest membership, and the selector's words. Each call is made
 //! under a lock; nothing is built and nothing is dropped here.
-ghost use Rattle.std.specs.Prelude.{◌≡◌, List, ◌∷◌, IfOk, IfErr, OnOk, OnErr, Err, Bool, true, not, unwrap_or};
+ghost use Rattle.std.specs.Prelude.{◌≡◌, ◌⊎◌, List, ◌∷◌, IfOk, IfErr, OnOk, OnErr, Err, Bool, true, not, unwrap_or};
 ghost use Rattle.std.specs.Arc.{arc_value};
 ghost use Rattle.lb_select_base.specs.Backends.{Member};
 ghost use Rattle.lb_select_base.specs.Memberships.{same_members};
 ghost use Rattle.lb_select_base.specs.Refusals.{Refuses};
 ghost use Rattle.lb_health_core.specs.Registry.{IsRegistryAfter};
 ghost use Rattle.lb_health_core.specs.RegistryEvents.{Event, Marked, Released};
+ghost use Rattle.lb_health_view.specs.Causes.{IsRegistryRefusal};
 ghost use Rattle.lb_health_view.specs.Views.{IsFounded, IsViewAfter, IsViewRefusal};
 ghost use Rattle.lb_health_view.specs.RegistrySide.{registry_updated, settings_of, view_updated};
 ghost use Rattle.lb_health_view.specs.ViewEvents.{ViewEvent, generation_after, membership_after};
 ghost use Rattle.lb_balancer_core.specs.Balancer.{IsJudged};
 ghost use Rattle.lb_balancer.specs.History.{SetsFlag, Takes, TakesIn};
-ghost use Rattle.lb_balancer.specs.SharedUpdates.{IsRoomRefusal};
+ghost use Rattle.lb_balancer.specs.SharedUpdates.{IsLeastCause};
 ghost use Rattle.lb_balancer.specs.Shown.{AreUnready, ShowsView};
 
 use crate::shown::{Shown, Version};
@@ -195,6 +196,7 @@ impl<S: BackendSelection> Serving<S> {
             → IsRegistryAfter R.gives key_of events registry.old → IsRegistryAfter R.gives key_of events registry.new) }
         ensures members_err { OnErr result.1 (self.new.members ≡ self.old.members) }
         ensures refused { OnErr result.1 (IsViewRefusal result.1) }
+        ensures least { IfErr result.1 (IsLeastCause R.gives self.old.view registry.old members.keys) }
         ensures config { self.new.config ≡ self.old.config }
         ensures one_registry { registry.new.id ≡ registry.old.id }
     {
@@ -208,24 +210,18 @@ impl<S: BackendSelection> Serving<S> {
         }
     }
 
-    /// Returns why another membership is refused by view and registry, or that memory is refused, without taking memory.
+    /// Returns the least cause for which view and registry refuse another membership, or `OutOfMemory` where none applies.
+    ///
+    /// It takes no memory.
     pub fn cause<R: KeyRule + Drop>(
         &self,
         registry: &Registry<R>,
         members: &BTreeSet<Backend>,
     ) -> Refusal
-        ensures { IsRoomRefusal result }
+        ensures kind { (result ≡ Refusal.GenerationsExhausted) ⊎ IsRegistryRefusal result }
+        ensures least { IsLeastCause R.gives self.now.view registry.now members.now.keys result }
     {
-        if self.view.generation() == u64::MAX {
-            return Refusal::GenerationsExhausted;
-        }
-        if !registry.has_view(self.view.id()) {
-            return Refusal::NoSuch;
-        }
-        if registry.lacks_numbers(members) {
-            return Refusal::NumbersExhausted;
-        }
-        Refusal::OutOfMemory
+        self.view.cause(registry, members)
     }
 
     /// Returns whether a backend is ready in the newest membership, without taking memory.

@@ -3,6 +3,7 @@ use Rattle.std.proofs.Common.{◌∙◌, sym}
 use Rattle.lb_health_view.specs.RegistrySide.{settings_of}
 use Rattle.lb_threads_core.proofs.Histories.{later}
 use Rattle.lb_balancer.proofs.Memberships.{on-ok-more}
+use Rattle.lb_balancer.proofs.Refused.{none-renewed}
 use Rattle.lb_balancer.proofs.Renewals.{renewed_later}
 use Rattle.lb_balancer.proofs.Served.{known, of-registry, renewed}
 use Rattle.lb_balancer.proofs.balancing.Balancing.renew.Goals as goal
@@ -50,3 +51,11 @@ returns-clause-taken g c =
     in
     on-ok-more c.renew-unserved.result.1 _ _ is.taken
     (λ taken. (c.take-held.result.value, (c.renew-unserved.new.self, (was, (now, taken)))))
+
+pub returns-clause-refused : goal.returns-clause-refused
+returns-clause-refused g c =
+    let is = c.renew-unserved.ensures in
+    none-renewed g.R.KeyRule.gives c.args.self.now c.args.members.keys c.renew-unserved.result.1
+    (known (c.self.invariant.0 ∙ c.self.view_is) c.take-held.ensures.fact)
+    (of-registry g.R.KeyRule.gives c.registry-registries.ensures c.self.view_is c.take_registry-cells.ensures.registry)
+    is.refused is.least

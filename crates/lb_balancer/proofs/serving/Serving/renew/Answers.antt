@@ -6,7 +6,9 @@ use Rattle.lb_health_view.specs.RegistrySide.{after_settings, registry_updated, 
 use Rattle.lb_health_view.specs.Views.{IsViewAfter}
 use Rattle.lb_balancer.specs.History.{StandsBy}
 use Rattle.lb_balancer.specs.Shown.{ServingValue}
+use Rattle.lb_balancer.specs.SharedUpdates.{IsLeastCause}
 use Rattle.lb_balancer.proofs.Memberships.{if-ok, kept-members, new-members, on-ok}
+use Rattle.lb_balancer.proofs.Refused.{least-cause}
 use Rattle.lb_balancer.proofs.serving.Serving.renew.Goals as goal
 
 pub invariant_of-self : goal.invariant_of-self
@@ -95,3 +97,11 @@ returns-in-Ok-None-clause-taken g c =
       before = subst (λ (v : ServingValue g.row.S-Config.Denot). StandsBy p.0 v) c.self.view_is (record { view = p.1; selector = p.2 });
       after = record { view = shown.1 p.0 p.1; selector = p.2 ∙ sym (kept-members settings members shown.0 p.0 same) };
     }
+
+pub returns-in-Err-clause-least : goal.returns-in-Err-clause-least
+returns-in-Err-clause-least g c =
+    let told = c.update.ensures in
+    subst (λ (v : ServingValue g.row.S-Config.Denot). IsLeastCause g.R.KeyRule.gives v.view c.args.registry.now c.args.members.keys
+    c.in-Err.refusal) c.self.view_is
+    (least-cause g.R.KeyRule.gives c.self.inside.view c.args.registry.now c.args.members.keys c.in-Err.refusal c.update.result c.in-Err.is
+    told.same told.exhausted told.last told.missing told.unknown told.lacking told.numbers told.refused)
