@@ -20,7 +20,7 @@ use crate::served::Served;
 use crate::timings::UpdateTimings;
 use lb_health_core::keys::KeyRule;
 use lb_health_core::registry::Registry;
-use lb_health_view::discovery::{DiscoverySource, ServiceDiscovery, Static};
+use lb_health_view::discovery::{BoxedDiscovery, DiscoverySource, ServiceDiscovery, Static};
 use lb_select_base::backend::Backend;
 use lb_select_base::moments::MomentSource;
 use lb_select_base::refusal::Refusal;
@@ -33,7 +33,7 @@ use std::net::Net;
 /// A discovery, what is served of its backends, and how long the last accepted update took. Selections and readings are those of
 /// what is served.
 #[derive(Drop)]
-pub struct LoadBalancerCore<S: BackendSelection, G: Drop, D> {
+pub struct LoadBalancerCore<S: BackendSelection, G: Drop, D = BoxedDiscovery> {
     pub discovery: DiscoverySource<D>,
     pub served: Served<S, G>,
     pub timing: Option<UpdateTimings>,

@@ -22,7 +22,7 @@ use crate::slot_configs::{configs_of, least_cause};
 use crate::timings::{SelectorUpdateTimings, UpdateTimings};
 use lb_health_core::keys::KeyRule;
 use lb_health_core::registry::Registry;
-use lb_health_view::discovery::{DiscoverySource, ServiceDiscovery};
+use lb_health_view::discovery::{BoxedDiscovery, DiscoverySource, ServiceDiscovery};
 use lb_rebuild_core::answers::Selection;
 use lb_rebuild_core::gate::GateCore;
 use lb_rebuild_core::group::GroupCore;
@@ -37,7 +37,7 @@ use std::alloc::Global;
 /// A discovery, the group that its backends reach, the loads by which its slots select, and how long the last accepted update took. The
 /// group's own calls build, publish and destroy the selectors of its slots.
 #[derive(Drop)]
-pub struct LoadBalancerGroupCore<S: BackendSelection, D> {
+pub struct LoadBalancerGroupCore<S: BackendSelection, D = BoxedDiscovery> {
     pub discovery: DiscoverySource<D>,
     pub group: GroupCore<Configured<S>>,
     pub loads: Loads,
