@@ -78,6 +78,7 @@ struct Places<S: BackendSelection, D, R: KeyRule + Drop, C> {
     lanes: Lanes<KeptShown<S, D, R, C>>,
     generator: SharedGenerator,
     loads: Arc<SharedLoads>,
+    alloc: Global,
 }
 
 /// A balancer with one selector. Contracts see what never changes: its discovery, what its selectors are built with, and which registry its
@@ -96,6 +97,8 @@ pub struct Balancing<S: BackendSelection, D, R: KeyRule + Drop, C> {
     pub(crate) generator: SharedGenerator,
     timing: Mutex<Option<UpdateTimings>>,
     loads: Arc<SharedLoads>,
+    // For what `get_backend` may have to show anew.
+    alloc: Global,
     // Counts what may have changed what is ready, but for the registry's own changes.
     pub(crate) changes: AtomicU64,
     seeds: AtomicU64,
@@ -114,6 +117,7 @@ impl<S: BackendSelection, D: Drop, R: KeyRule + Drop, C: Drop> Drop for Balancin
             generator: _,
             timing: _,
             loads: _,
+            alloc: _,
             changes: _,
             seeds: _,
         } = self;
@@ -211,6 +215,7 @@ impl<
             lanes,
             generator,
             loads,
+            alloc,
         } = places;
         Balancing {
             origin,
@@ -223,6 +228,7 @@ impl<
             generator,
             timing: Mutex::new(timing),
             loads,
+            alloc,
             changes: AtomicU64::new(0),
             seeds: AtomicU64::new(1),
         }
@@ -503,7 +509,7 @@ impl<
     /// Returns the newest generation; 0 before the first membership.
     ///
     /// It is one load, but for the first reading before the first update, which takes the lock of what is served.
-    pub fn generation<W: Wait>(&self, rt: &W) -> u64
+    pub(crate) fn generation<W: Wait>(&self, rt: &W) -> u64
         ensures { IsServedGeneration self.now result }
     {
         let _key = &self.origin;
@@ -528,23 +534,19 @@ impl<
     /// Returns the newest membership.
     ///
     /// Refused `OutOfMemory` where memory is refused.
-    pub fn get_backend<W: Wait>(
-        &self,
-        rt: &W,
-        alloc: Global,
-    ) -> Result<Arc<BTreeSet<Backend>>, Refusal>
+    pub(crate) fn get_backend<W: Wait>(&self, rt: &W) -> Result<Arc<BTreeSet<Backend>>, Refusal>
         ensures members { IfOk result (λ set. (s : ShownValue S.Config) × IsShownBy R.gives self.now s
             × ((arc_value set).keys ≡ s.members)) }
         ensures refused { IfErr result (λ e. e ≡ Refusal.OutOfMemory) }
     {
-        let kept = self.current(rt, alloc)?;
+        let kept = self.current(rt, self.alloc)?;
         (*kept.shown).get_backend()
     }
 
     /// Enables or disables a backend of the newest membership, by identity; another is left alone.
     ///
     /// It takes no memory.
-    pub fn set_enable<W: Wait>(&self, rt: &W, backend: &Backend, enabled: bool)
+    pub(crate) fn set_enable<W: Wait>(&self, rt: &W, backend: &Backend, enabled: bool)
         ensures { UnderServing self.now (SetsFlag backend.now enabled) }
     {
         let _key = &self.origin;
@@ -594,6 +596,11 @@ impl<
         ensures { IfErr result (λ e. e ≡ Refusal.HealthCheckSet) }
     {
         self.origin.registry().set_health_check(rt, check)
+    }
+
+    // The registry of health.
+    pub(crate) fn health_registry(&self) -> &HealthRegistry<R, C> {
+        self.origin.registry()
     }
 
     /// Returns how long the last accepted update took; `None` before the first.
@@ -659,7 +666,7 @@ impl<
     /// # Errors
     ///
     /// Those of `HealthRegistry::run_health_check`.
-    pub fn run_health_check<W: Log + Threads + Wait + Sync>(
+    pub(crate) fn run_health_check<W: Log + Threads + Wait + Sync>(
         &self,
         rt: &W,
         alloc: Global,
@@ -746,5 +753,6 @@ fn places_over<S: BackendSelection, D, R: KeyRule + Drop, C: HealthCheck + Drop,
         lanes,
         generator,
         loads,
+        alloc,
     })
 }

@@ -116,7 +116,7 @@ impl<
     /// Returns whether a backend is ready in the newest membership, without taking memory.
     ///
     /// Of a member it takes no lock where nothing changed since it was asked for.
-    pub fn ready<W: Wait>(&self, rt: &W, backend: &Backend) -> bool
+    pub(crate) fn ready<W: Wait>(&self, rt: &W, backend: &Backend) -> bool
         ensures { JudgedBy R.gives self.now backend.now result }
     {
         if let Some(ready) = self.ready_in_lane(backend) {

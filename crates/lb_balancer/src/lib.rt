@@ -2,6 +2,7 @@
 //! served when it began.
 #![tactic(auto)]
 
+pub mod backends;
 pub mod balancing;
 pub mod judging;
 pub mod kept;

@@ -218,13 +218,6 @@ impl<
         self.shared.set_health_check(rt, check)
     }
 
-    /// Returns what the balancer serves from: its generation, which of its backends are ready, and their flags.
-    pub fn backends(&self) -> &Balancing<S, D, R, C>
-        ensures { result.now ≡ self.now.shared }
-    {
-        &self.shared
-    }
-
     /// Returns the newest generation, which is the served one; 0 before the first membership.
     pub fn backend_generation<W: Wait>(&self, rt: &W) -> u64
         ensures { IsServedGeneration self.now.shared result }

@@ -2,13 +2,12 @@
 //! under a lock; nothing is built and nothing is dropped here.
 ghost use Rattle.std.specs.Prelude.{◌≡◌, ◌⊎◌, List, ◌∷◌, IfOk, IfErr, OnOk, OnErr, Err, Bool, true, not, unwrap_or};
 ghost use Rattle.std.specs.Arc.{arc_value};
-ghost use Rattle.lb_select_base.specs.Backends.{Member};
 ghost use Rattle.lb_select_base.specs.Memberships.{same_members};
 ghost use Rattle.lb_select_base.specs.Refusals.{Refuses};
-ghost use Rattle.lb_health_core.specs.Registry.{IsRegistryAfter};
-ghost use Rattle.lb_health_core.specs.RegistryEvents.{Event, Marked, Released};
+ghost use Rattle.lb_health_core.specs.Registry.{IsRegistryAfter, KeepsHistory};
+ghost use Rattle.lb_health_core.specs.RegistryEvents.{Marked, Released};
 ghost use Rattle.lb_health_view.specs.Causes.{IsRegistryRefusal};
-ghost use Rattle.lb_health_view.specs.Views.{IsFounded, IsViewAfter, IsViewRefusal};
+ghost use Rattle.lb_health_view.specs.Views.{IsFounded, IsViewAfter, IsViewRefusal, HoldsOfBoth};
 ghost use Rattle.lb_health_view.specs.RegistrySide.{registry_updated, settings_of, view_updated};
 ghost use Rattle.lb_health_view.specs.ViewEvents.{ViewEvent, generation_after, membership_after};
 ghost use Rattle.lb_balancer_core.specs.Balancer.{IsJudged};
@@ -150,11 +149,9 @@ impl<S: BackendSelection> Serving<S> {
         settings: Settings,
     )
         requires { same_members members.keys self.old.members ≡ true }
-        ensures updated { (key_of : Member → Member) (views : List ViewEvent) (events : List Event) → IsViewAfter views self.old.view
-            → IsRegistryAfter R.gives key_of events registry.old
-            → IsViewAfter (view_updated key_of self.old.view.id members.keys (settings_of settings.entries) events views) self.new.view }
-        ensures registry { (key_of : Member → Member) (events : List Event) → IsRegistryAfter R.gives key_of events registry.old
-            → IsRegistryAfter R.gives key_of events registry.new }
+        ensures updated { HoldsOfBoth R.gives self.old.view registry.old (λ key_of views events. IsViewAfter
+            (view_updated key_of self.old.view.id members.keys (settings_of settings.entries) events views) self.new.view) }
+        ensures registry { KeepsHistory R.gives registry.old registry.new }
         ensures took { Takes members.keys (settings_of settings.entries) self.old self.new }
         ensures taken { TakesIn members.keys (settings_of settings.entries) self.old self.new }
         ensures members { self.new.members ≡ self.old.members }
@@ -183,17 +180,15 @@ impl<S: BackendSelection> Serving<S> {
     ) -> (BuiltSelector<S>, Result<(), Refusal>)
         requires members { S.members (arc_value built.selector) ≡ members.keys }
         requires config { S.built_with (arc_value built.selector) ≡ self.old.config }
-        ensures updated { OnOk result.1 ((key_of : Member → Member) (views : List ViewEvent) (events : List Event)
-            → IsViewAfter views self.old.view → IsRegistryAfter R.gives key_of events registry.old
-            → IsViewAfter (view_updated key_of self.old.view.id members.keys (settings_of settings.entries) events views) self.new.view) }
-        ensures registry { OnOk result.1 ((key_of : Member → Member) (views : List ViewEvent) (events : List Event)
-            → IsViewAfter views self.old.view → IsRegistryAfter R.gives key_of events registry.old
-            → IsRegistryAfter R.gives key_of (registry_updated key_of self.old.view.id members.keys views events) registry.new) }
+        ensures updated { OnOk result.1 (HoldsOfBoth R.gives self.old.view registry.old (λ key_of views events. IsViewAfter
+            (view_updated key_of self.old.view.id members.keys (settings_of settings.entries) events views) self.new.view)) }
+        ensures registry { OnOk result.1 (HoldsOfBoth R.gives self.old.view registry.old
+            (λ key_of views events. IsRegistryAfter R.gives key_of
+            (registry_updated key_of self.old.view.id members.keys views events) registry.new)) }
         ensures took { OnOk result.1 (Takes members.keys (settings_of settings.entries) self.old self.new) }
         ensures taken { OnOk result.1 (TakesIn members.keys (settings_of settings.entries) self.old self.new) }
         ensures view_err { OnErr result.1 ((views : List ViewEvent) → IsViewAfter views self.old.view → IsViewAfter views self.new.view) }
-        ensures registry_err { OnErr result.1 ((key_of : Member → Member) (events : List Event)
-            → IsRegistryAfter R.gives key_of events registry.old → IsRegistryAfter R.gives key_of events registry.new) }
+        ensures registry_err { OnErr result.1 (KeepsHistory R.gives registry.old registry.new) }
         ensures members_err { OnErr result.1 (self.new.members ≡ self.old.members) }
         ensures refused { OnErr result.1 (IsViewRefusal result.1) }
         ensures least { IfErr result.1 (IsLeastCause R.gives self.old.view registry.old members.keys) }
@@ -246,10 +241,8 @@ impl<S: BackendSelection> Serving<S> {
     ///
     /// It takes no memory.
     pub fn leave<R: KeyRule + Drop>(&self, registry: &mut Registry<R>)
-        ensures after { (key_of : Member → Member) (views : List ViewEvent) (events : List Event) → IsViewAfter views self.now.view
-            → IsRegistryAfter R.gives key_of events registry.old
-            → IsRegistryAfter R.gives key_of (Released self.now.view.id (generation_after views) ∷ Marked self.now.view.id ∷ events)
-            registry.new }
+        ensures after { HoldsOfBoth R.gives self.now.view registry.old (λ key_of views events. IsRegistryAfter R.gives key_of
+            (Released self.now.view.id (generation_after views) ∷ Marked self.now.view.id ∷ events) registry.new) }
         ensures one_registry { registry.new.id ≡ registry.old.id }
     {
         registry.remove_view(self.view.id());

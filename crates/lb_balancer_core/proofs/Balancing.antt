@@ -59,7 +59,8 @@ shown-view : (b : Bool) (members : List Member) (cells : List (Member × ℕ)) (
 shown-view true members cells e = refl
 shown-view false members cells e = refl
 
-view-is : (settings : List (Member × Bool)) (members : List Member) (cells : List (Member × ℕ)) (e : History)
+-- what an update is to the view
+pub view-is : (settings : List (Member × Bool)) (members : List Member) (cells : List (Member × ℕ)) (e : History)
     → view_events (after_settings settings (with_membership members cells e)) ≡ joined.after_settings settings
     (joined.with_membership members cells (view_events e))
 view-is settings members cells e =

@@ -1,8 +1,10 @@
 -- A balancer that is made of texts: its discovery always answers what was looked up, so that an update of it is one to that.
 use Rattle.std.proofs.Common.{◌≡◌, ◌⊎◌, ◌∙◌, ◌≤◌, ◌+◌, ◌^◌, ℕ, List, [], Option, Some, None, Result, Ok}
-use Rattle.std.proofs.Common.{Err, IfErr, IsErrOf, OnErr, OnOk, inl, inr, sym, subst, ap}
+use Rattle.std.proofs.Common.{Err, IfErr, IsErrOf, OnErr, OnOk, inl, inr, sym, subst, ap, length}
+use Rattle.std.specs.Prelude.{if◌then◌else◌}
 use Rattle.std.specs.Borrow.{Bor}
 use Rattle.lb_select_base.specs.Backends.{Member}
+use Rattle.lb_select_base.specs.Memberships.{same_members}
 use Rattle.lb_select_base.specs.Refusals.{memory_apart}
 use Rattle.lb_select_base.specs.declared.refusal.Refusal.{Refusal}
 use Rattle.lb_select_base.specs.declared.refusal.Refusal.TheVariants.{NumbersExhausted, OutOfMemory}
@@ -15,7 +17,7 @@ use Rattle.lb_health_view.specs.declared.discovery.DiscoverySource.{DiscoverySou
 use Rattle.lb_health_view.specs.declared.discovery.DiscoverySource.TheVariants.{Static}
 use Rattle.lb_balancer_core.specs.Balancer.{ServedValue, Stands, update_cause, updated}
 use Rattle.lb_balancer_core.specs.BalancerUpdates.{IsRefusal, IsUpdated}
-use Rattle.lb_balancer_core.specs.Texts.{IsOfTextsIn, IsTextsRefusalIn, one_more}
+use Rattle.lb_balancer_core.specs.Texts.{IsOfTextsIn, IsTextsRefusal, one_more}
 use Rattle.lb_rebuild_core.specs.GroupCalls.{IsMakingRefusal}
 use Rattle.lb_balancer_core.specs.declared.timings.UpdateTimings.{UpdateTimings}
 
@@ -39,7 +41,7 @@ module _ {R : Type 0} (gives : R → Member → Member → Type 0) (texts : List
       → (let told : Result A Refusal = Err r in IsMakingRefusal (build []) told
       × ((key_of : Member → Member) (events : List Event) → IsRegistryAfter gives key_of events before → memory_apart (build []) ≡ None
       → IsErrOf told NumbersExhausted → 2 ^ 64 ≤ registered_after events + 1))
-      → IsTextsRefusalIn gives before texts build r
+      → IsTextsRefusal gives before texts build r
   unmade build r (inl some, few) = inr (inr (inl some))
   unmade build r (inr (apart, inl memory), few) = inr (inl memory)
   unmade build r (inr (apart, inr numbers), few) =
@@ -53,7 +55,7 @@ module _ {R : Type 0} (gives : R → Member → Member → Type 0) (texts : List
       → IsRegistryAfter gives key_of (one_more events) middle)
       (made : IsMadeOf texts (Ok found)) {D : Type 0} (finds : D → Found → Type 0) where
     not-taken : (r : Refusal) → IsRefusal finds gives (Static found) was middle build r
-        → IsTextsRefusalIn gives before texts (λ ms. build ms default) r
+        → IsTextsRefusal gives before texts (λ ms. build ms default) r
     not-taken r (inl h) = absurd h.1
     not-taken r (inr (inl memory)) = inr (inl memory.0)
     not-taken r (inr (inr a)) = inr (inr (inr (inr (
@@ -67,7 +69,7 @@ module _ {R : Type 0} (gives : R → Member → Member → Type 0) (texts : List
 
     -- the one update in that registry is refused
     pub refused-in : (discovery : DiscoverySource D) (r : Refusal) → discovery ≡ Static found
-        → IsRefusal finds gives discovery was middle build r → IsTextsRefusalIn gives before texts (λ ms. build ms default) r
+        → IsRefusal finds gives discovery was middle build r → IsTextsRefusal gives before texts (λ ms. build ms default) r
     refused-in discovery r is h = not-taken r (subst (λ d. IsRefusal finds gives d was middle build r) is h)
 
     -- the one update in that registry is made
@@ -80,11 +82,21 @@ module _ {R : Type 0} (gives : R → Member → Member → Type 0) (texts : List
         let discovered : Discovers finds (Static found) u.members u.settings =
         subst (λ d. Discovers finds d u.members u.settings) is u.discovered in
         record {
-          members = found;
-          times = u.times;
-          looked_up = made;
-          keeps = same ∙ is;
-          read = u.read;
+          taken = record {
+            members = found;
+            times = u.times;
+            looked_up = made;
+            keeps = same ∙ is;
+            read = u.read;
+            readings =
+                subst (λ ms. length u.times ≡ (if same_members ms [] then 2 else 4)) discovered.0 (u.readings [] stands);
+            registry = λ key_of events known.
+                subst (λ ms. IsRegistryAfter gives key_of (registry_updated key_of (registered_after events + 1) ms [] (one_more events))
+                after) discovered.0
+                (subst (λ i. IsRegistryAfter gives key_of (registry_updated key_of i u.members [] (one_more events)) after)
+                (id key_of events known)
+                (u.registry key_of (one_more events) (registered key_of events known) [] stands));
+          };
           timed = u.timed;
           stands = λ key_of events known.
               subst (λ ms. Stands (updated key_of (registered_after events + 1) ms [] (one_more events) []) now) discovered.0
@@ -92,10 +104,4 @@ module _ {R : Type 0} (gives : R → Member → Member → Type 0) (texts : List
               discovered.1
               (subst (λ i. Stands (updated key_of i u.members u.settings (one_more events) []) now) (id key_of events known)
               (u.stands key_of (one_more events) (registered key_of events known) [] stands)));
-          registry = λ key_of events known.
-              subst (λ ms. IsRegistryAfter gives key_of (registry_updated key_of (registered_after events + 1) ms [] (one_more events))
-              after) discovered.0
-              (subst (λ i. IsRegistryAfter gives key_of (registry_updated key_of i u.members [] (one_more events)) after)
-              (id key_of events known)
-              (u.registry key_of (one_more events) (registered key_of events known) [] stands));
         }

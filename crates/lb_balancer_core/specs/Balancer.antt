@@ -7,13 +7,13 @@ use Rattle.lb_select_base.specs.Memberships.{same_members}
 use Rattle.lb_select_base.specs.Refusals.{memory_apart}
 use Rattle.lb_select_base.specs.declared.refusal.Refusal.{Refusal}
 use Rattle.lb_select_base.specs.declared.words.CoreWords.{CoreWords}
-use Rattle.lb_health_core.specs.Registry.{RegistryValue, IsRegistryAfter}
+use Rattle.lb_health_core.specs.Registry.{RegistryValue}
 use Rattle.lb_health_core.specs.RegistryEvents as registry
 use Rattle.lb_health_view.specs.Causes.{view_cause}
 use Rattle.lb_health_view.specs.RegistrySide.{IsReady}
 use Rattle.lb_health_view.specs.Snapshots.{ViewValue}
 use Rattle.lb_health_view.specs.ViewEvents as view
-use Rattle.lb_health_view.specs.Views.{IsViewAfter}
+use Rattle.lb_health_view.specs.Views.{IsViewAfter, HoldsOfBoth}
 
 pub data Event : Type 0 where
   -- another membership with the cells of its backends, whose selector is served from then on
@@ -94,6 +94,4 @@ Judges key_of events e b ready =
 -- the same, whatever view and registry have been through
 abbrev pub IsJudged : {R : Type 0} → (R → Member → Member → Type 0) → ViewValue → RegistryValue R → Member → Bool → Type 0
 IsJudged gives v r b ready =
-    (key_of : Member → Member) (views : List view.ViewEvent) (events : List registry.Event)
-    → IsViewAfter views v → IsRegistryAfter gives key_of events r
-    → (IsTrue ready ↔ IsReady key_of views events (view.generation_after views) b)
+    HoldsOfBoth gives v r (λ key_of views events. IsTrue ready ↔ IsReady key_of views events (view.generation_after views) b)

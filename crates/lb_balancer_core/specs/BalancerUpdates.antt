@@ -4,8 +4,7 @@ use Rattle.lb_select_base.specs.Backends.{Member}
 use Rattle.lb_select_base.specs.Memberships.{same_members}
 use Rattle.lb_select_base.specs.declared.refusal.Refusal.{Refusal}
 use Rattle.lb_select_base.specs.declared.refusal.Refusal.TheVariants.{Discovery, OutOfMemory}
-use Rattle.lb_health_core.specs.Registry.{RegistryValue, IsRegistryAfter}
-use Rattle.lb_health_core.specs.RegistryEvents.{Event}
+use Rattle.lb_health_core.specs.Registry.{RegistryValue, IsRegistryAfter, HoldsOf}
 use Rattle.lb_health_view.specs.Discoveries.{Discovers, Found, MayFault, MayLackMemory}
 use Rattle.lb_health_view.specs.RegistrySide.{registry_updated}
 use Rattle.lb_health_view.specs.declared.discovery.DiscoverySource.{DiscoverySource}
@@ -27,21 +26,20 @@ module _ {D C G R : Type 0} (finds : D → Found → Type 0) (gives : R → Memb
     pub read : Reads reads clock times clock_after
     pub timed : timing ≡ update_timing times
     pub readings : After was (λ e. length times ≡ (if same_members members (members_now e) then 2 else 4))
-    pub free : (key_of : Member → Member) (events : List Event) → IsRegistryAfter gives key_of events before
-        → After was (λ e. update_cause (build members was.config) key_of was.view.id members events e ≡ None)
-    pub stands : (key_of : Member → Member) (events : List Event) → IsRegistryAfter gives key_of events before
-        → After was (λ e. Stands (updated key_of was.view.id members settings events e) now)
-    pub registry : (key_of : Member → Member) (events : List Event) → IsRegistryAfter gives key_of events before
-        → After was (λ e. IsRegistryAfter gives key_of (registry_updated key_of was.view.id members (view_events e) events) after)
+    pub free : HoldsOf gives before (λ key_of events. After was (λ e. update_cause
+        (build members was.config) key_of was.view.id members events e ≡ None))
+    pub stands : HoldsOf gives before (λ key_of events. After was (λ e. Stands (updated key_of was.view.id members settings events e) now))
+    pub registry : HoldsOf gives before (λ key_of events. After was (λ e. IsRegistryAfter gives key_of
+        (registry_updated key_of was.view.id members (view_events e) events) after))
 
   -- the discovery gave members that are refused, for the cause that applies, or for memory where none does
   pub record AreRefused (r : Refusal) : Type 0 where
     pub members : List Member
     pub settings : List (Member × Bool)
     pub discovered : Discovers finds discovery members settings
-    pub cause : (key_of : Member → Member) (events : List Event) → IsRegistryAfter gives key_of events before
-        → After was (λ e. (update_cause (build members was.config) key_of was.view.id members events e ≡ Some r)
-        ⊎ ((update_cause (build members was.config) key_of was.view.id members events e ≡ None) × (r ≡ OutOfMemory)))
+    pub cause : HoldsOf gives before (λ key_of events. After was (λ e. (update_cause
+        (build members was.config) key_of was.view.id members events e ≡ Some r)
+        ⊎ ((update_cause (build members was.config) key_of was.view.id members events e ≡ None) × (r ≡ OutOfMemory))))
 
   -- the discovery answers a fault or is refused memory, or what it gave is refused
   abbrev pub IsRefusal : Refusal → Type 0

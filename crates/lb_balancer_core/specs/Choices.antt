@@ -5,7 +5,7 @@ use Rattle.lb_select_base.specs.Draws.{Draw}
 use Rattle.lb_select_base.specs.Selections.{Selects}
 use Rattle.lb_select_base.specs.declared.refusal.Refusal.{Refusal}
 use Rattle.lb_select_base.specs.declared.words.CoreWords.{CoreWords}
-use Rattle.lb_health_core.specs.Registry.{RegistryValue, IsRegistryAfter}
+use Rattle.lb_health_core.specs.Registry.{RegistryValue, HoldsOf}
 use Rattle.lb_health_core.specs.RegistryEvents.{Event}
 use Rattle.lb_balancer_core.specs.Balancer.{History, ServedValue, After, members_now}
 
@@ -15,6 +15,5 @@ module _ {C G R : Type 0} (gives : R → Member → Member → Type 0) (draws : 
   -- the answer for a key is that of a walk over the newest membership, by what accepts after the registry's and the balancer's history
   abbrev pub Chooses : RegistryValue R → ServedValue C G → List ℕ → ℕ → Result (Option Member) Refusal → ServedValue C G → Type 0
   Chooses registry was key limit answer now =
-      (key_of : Member → Member) (events : List Event) → IsRegistryAfter gives key_of events registry
-      → After was (λ e. Selects same_member (accepts key_of events e) limit draws (walks (members_now e) was.config key)
-      was.words answer now.words)
+      HoldsOf gives registry (λ key_of events. After was (λ e. Selects same_member (accepts key_of events e) limit draws (walks
+      (members_now e) was.config key) was.words answer now.words))

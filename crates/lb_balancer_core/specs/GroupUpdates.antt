@@ -3,8 +3,8 @@ use Rattle.std.specs.Prelude.{◌≡◌, ◌⊎◌, ◌^◌, ◌≤◌, ℕ, Boo
 use Rattle.lb_select_base.specs.Backends.{Member}
 use Rattle.lb_select_base.specs.declared.refusal.Refusal.{Refusal}
 use Rattle.lb_select_base.specs.declared.refusal.Refusal.TheVariants.{Discovery, OutOfMemory, NoSuch, NumbersExhausted}
-use Rattle.lb_health_core.specs.Registry.{RegistryValue, IsRegistryAfter}
-use Rattle.lb_health_core.specs.RegistryEvents.{Event, Applied, Updated, cells_given, has_view, views_after}
+use Rattle.lb_health_core.specs.Registry.{RegistryValue, IsRegistryAfter, HoldsOf}
+use Rattle.lb_health_core.specs.RegistryEvents.{Applied, Updated, cells_given, has_view, views_after}
 use Rattle.lb_rebuild_core.specs.SlotsCalls.{is_change, schedule_refusal}
 use Rattle.lb_rebuild_core.specs.declared.membership.Scheduled.{Scheduled}
 use Rattle.lb_health_view.specs.Discoveries.{Discovers, Found, MayFault, MayLackMemory}
@@ -30,10 +30,10 @@ module _ {D C R : Type 0} (finds : D → Found → Type 0) (gives : R → Member
     pub read : Reads reads clock (start ∷ moment ∷ []) clock_after
     pub timed : timing ≡ update_timing (start ∷ moment ∷ [])
     pub answers : After was (λ made e. Schedules made e members (Ok s))
-    pub stands : (key_of : Member → Member) (events : List Event) → IsRegistryAfter gives key_of events before
-        → After was (λ made e. Stands made (after_schedule key_of was.view.id members settings moment events e) now)
-    pub registry : (key_of : Member → Member) (events : List Event) → IsRegistryAfter gives key_of events before
-        → After was (λ made e. IsRegistryAfter gives key_of (registry_updated key_of was.view.id members (views_of made e) events) after)
+    pub stands : HoldsOf gives before (λ key_of events. After was (λ made e. Stands made
+        (after_schedule key_of was.view.id members settings moment events e) now))
+    pub registry : HoldsOf gives before (λ key_of events. After was (λ made e. IsRegistryAfter gives key_of
+        (registry_updated key_of was.view.id members (views_of made e) events) after))
 
   -- The discovery gave members that are refused. That the registry lacks the view goes before the want of numbers, and both before
   -- that of memory.
@@ -42,17 +42,14 @@ module _ {D C R : Type 0} (finds : D → Found → Type 0) (gives : R → Member
     pub settings : List (Member × Bool)
     pub discovered : Discovers finds discovery members settings
     pub cause : After was (λ made e. IsRefusedFor (slot_events e) members r)
-    pub unknown : r ≡ NoSuch → (key_of : Member → Member) (events : List Event) → IsRegistryAfter gives key_of events before
-        → has_view was.view.id (views_after events) ≡ false
-    pub numbers : r ≡ NumbersExhausted → (key_of : Member → Member) (events : List Event) → IsRegistryAfter gives key_of events before
-        → 2 ^ 64 ≤ cells_given key_of (Updated was.view.id members ∷ Applied ∷ events)
-    pub missing : (key_of : Member → Member) (events : List Event) → IsRegistryAfter gives key_of events before
-        → After was (λ made e. schedule_refusal members (slot_events e) ≡ None → is_change members (slot_events e) ≡ true
-        → has_view was.view.id (views_after events) ≡ false → r ≡ NoSuch)
-    pub lacking : (key_of : Member → Member) (events : List Event) → IsRegistryAfter gives key_of events before
-        → After was (λ made e. schedule_refusal members (slot_events e) ≡ None → is_change members (slot_events e) ≡ true
-        → has_view was.view.id (views_after events) ≡ true
-        → 2 ^ 64 ≤ cells_given key_of (Updated was.view.id members ∷ Applied ∷ events) → r ≡ NumbersExhausted)
+    pub unknown : r ≡ NoSuch → HoldsOf gives before (λ key_of events. has_view was.view.id (views_after events) ≡ false)
+    pub numbers : r ≡ NumbersExhausted → HoldsOf gives before (λ key_of events. 2 ^ 64
+        ≤ cells_given key_of (Updated was.view.id members ∷ Applied ∷ events))
+    pub missing : HoldsOf gives before (λ key_of events. After was (λ made e. schedule_refusal members (slot_events e) ≡ None
+        → is_change members (slot_events e) ≡ true → has_view was.view.id (views_after events) ≡ false → r ≡ NoSuch))
+    pub lacking : HoldsOf gives before (λ key_of events. After was (λ made e. schedule_refusal members (slot_events e) ≡ None
+        → is_change members (slot_events e) ≡ true → has_view was.view.id (views_after events) ≡ true
+        → 2 ^ 64 ≤ cells_given key_of (Updated was.view.id members ∷ Applied ∷ events) → r ≡ NumbersExhausted))
 
   -- the discovery answers a fault or is refused memory, or what it gave is refused
   abbrev pub IsGroupRefusal : Refusal → Type 0

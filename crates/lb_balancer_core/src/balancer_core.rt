@@ -6,21 +6,21 @@ ghost use Rattle.std.specs.Iterator.{Drains, IsFinite};
 ghost use Rattle.lb_select_base.specs.Backends.{Member};
 ghost use Rattle.lb_select_base.specs.Loads.{SetsLoad, load_in};
 ghost use Rattle.lb_select_base.specs.Refusals.{memory_apart};
-ghost use Rattle.lb_health_core.specs.Registry.{IsRegistryAfter};
-ghost use Rattle.lb_health_core.specs.RegistryEvents.{Event, Applied, Marked, Registered, registered_after};
+ghost use Rattle.lb_health_core.specs.Registry.{IsRegistryAfter, HoldsOf, Grows, KeepsHistory};
+ghost use Rattle.lb_health_core.specs.RegistryEvents.{Applied, Marked, Registered, registered_after};
 ghost use Rattle.lb_health_view.specs.ViewEvents.{generation_after};
 ghost use Rattle.lb_rebuild_core.specs.GroupCalls.{AcceptsBy, IsMakingRefusal};
 ghost use Rattle.lb_balancer_core.specs.Choices.{Chooses};
 ghost use Rattle.lb_balancer_core.specs.Balancer.{After, Drew, Judges, Stands, view_events};
 ghost use Rattle.lb_balancer_core.specs.BalancerUpdates.{IsUpdated, IsRefusal};
-ghost use Rattle.lb_balancer_core.specs.Texts.{IsOfTextsIn, IsTextsRefusalIn, one_more};
+ghost use Rattle.lb_balancer_core.specs.Texts.{IsOfTextsIn, IsTextsRefusal, one_more};
 
 use crate::lent::LentBackends;
 use crate::served::Served;
 use crate::timings::UpdateTimings;
 use lb_health_core::keys::KeyRule;
 use lb_health_core::registry::Registry;
-use lb_health_view::discovery::{DiscoverySource, ServiceDiscovery, Static};
+use lb_health_view::discovery::{BoxedDiscovery, DiscoverySource, ServiceDiscovery, Static};
 use lb_select_base::backend::Backend;
 use lb_select_base::moments::MomentSource;
 use lb_select_base::refusal::Refusal;
@@ -33,7 +33,7 @@ use std::net::Net;
 /// A discovery, what is served of its backends, and how long the last accepted update took. Selections and readings are those of
 /// what is served.
 #[derive(Drop)]
-pub struct LoadBalancerCore<S: BackendSelection, G: Drop, D> {
+pub struct LoadBalancerCore<S: BackendSelection, G: Drop, D = BoxedDiscovery> {
     pub discovery: DiscoverySource<D>,
     pub served: Served<S, G>,
     pub timing: Option<UpdateTimings>,
@@ -54,17 +54,12 @@ impl<S: BackendSelection, G: Rng + Drop, D: ServiceDiscovery + Drop> LoadBalance
     ) -> Result<LoadBalancerCore<S, G, D>, Refusal>
         ensures stands { IfOk result (λ b. Stands [] b.served × (b.served.config ≡ S.default_config)
             × (b.served.words.generator ≡ generator) × ((m : Member) → load_in b.served.words.loads m ≡ 0)) }
-        ensures id { IfOk result (λ b. (key_of : Member → Member) (events : List Event)
-            → IsRegistryAfter R.gives key_of events registry.old → b.served.view.id ≡ registered_after events + 1) }
+        ensures id { IfOk result (λ b. HoldsOf R.gives registry.old (λ key_of events. b.served.view.id ≡ registered_after events + 1)) }
         ensures parts { IfOk result (λ b. (b.discovery ≡ discovery) × (b.timing ≡ None)) }
-        ensures registry { OnOk result ((key_of : Member → Member) (events : List Event)
-            → IsRegistryAfter R.gives key_of events registry.old
-            → IsRegistryAfter R.gives key_of (Applied ∷ Registered ∷ events) registry.new) }
-        ensures err { OnErr result ((key_of : Member → Member) (events : List Event) → IsRegistryAfter R.gives key_of events registry.old
-            → IsRegistryAfter R.gives key_of events registry.new) }
-        ensures exhausted { (key_of : Member → Member) (events : List Event) → IsRegistryAfter R.gives key_of events registry.old
-            → memory_apart (S.refusal [] S.default_config) ≡ None
-            → (IsErrOf result Refusal.NumbersExhausted ↔ (2 ^ 64 ≤ registered_after events + 1)) }
+        ensures registry { OnOk result (Grows R.gives registry.old (λ events. Applied ∷ Registered ∷ events) registry.new) }
+        ensures err { OnErr result (KeepsHistory R.gives registry.old registry.new) }
+        ensures exhausted { HoldsOf R.gives registry.old (λ key_of events. memory_apart (S.refusal [] S.default_config) ≡ None
+            → (IsErrOf result Refusal.NumbersExhausted ↔ (2 ^ 64 ≤ registered_after events + 1))) }
         ensures refused { IsMakingRefusal (S.refusal [] S.default_config) result }
         ensures one_registry { registry.new.id ≡ registry.old.id }
     {
@@ -85,17 +80,13 @@ impl<S: BackendSelection, G: Rng + Drop, D: ServiceDiscovery + Drop> LoadBalance
     ) -> Result<LoadBalancerCore<S, G, D>, Refusal>
         ensures stands { IfOk result (λ b. Stands [] b.served × (b.served.config ≡ unwrap_or config S.default_config)
             × (b.served.words.generator ≡ generator) × ((m : Member) → load_in b.served.words.loads m ≡ 0)) }
-        ensures id { IfOk result (λ b. (key_of : Member → Member) (events : List Event)
-            → IsRegistryAfter R.gives key_of events registry.old → b.served.view.id ≡ registered_after events + 1) }
+        ensures id { IfOk result (λ b. HoldsOf R.gives registry.old (λ key_of events. b.served.view.id ≡ registered_after events + 1)) }
         ensures parts { IfOk result (λ b. (b.discovery ≡ discovery) × (b.timing ≡ None)) }
-        ensures registry { OnOk result ((key_of : Member → Member) (events : List Event)
-            → IsRegistryAfter R.gives key_of events registry.old
-            → IsRegistryAfter R.gives key_of (Applied ∷ Registered ∷ events) registry.new) }
-        ensures err { OnErr result ((key_of : Member → Member) (events : List Event) → IsRegistryAfter R.gives key_of events registry.old
-            → IsRegistryAfter R.gives key_of events registry.new) }
-        ensures exhausted { (key_of : Member → Member) (events : List Event) → IsRegistryAfter R.gives key_of events registry.old
-            → memory_apart (S.refusal [] (unwrap_or config S.default_config)) ≡ None
-            → (IsErrOf result Refusal.NumbersExhausted ↔ (2 ^ 64 ≤ registered_after events + 1)) }
+        ensures registry { OnOk result (Grows R.gives registry.old (λ events. Applied ∷ Registered ∷ events) registry.new) }
+        ensures err { OnErr result (KeepsHistory R.gives registry.old registry.new) }
+        ensures exhausted { HoldsOf R.gives registry.old (λ key_of events. memory_apart (S.refusal []
+            (unwrap_or config S.default_config)) ≡ None → (IsErrOf result Refusal.NumbersExhausted
+            ↔ (2 ^ 64 ≤ registered_after events + 1))) }
         ensures refused { IsMakingRefusal (S.refusal [] (unwrap_or config S.default_config)) result }
         ensures one_registry { registry.new.id ≡ registry.old.id }
     {
@@ -137,13 +128,11 @@ impl<S: BackendSelection, G: Rng + Drop, D: ServiceDiscovery + Drop> LoadBalance
             × IsOfTextsIn R.gives K.reads registry.old read clock.old clock.new b.discovery b.served registry.new b.timing) }
         ensures parts { IfOk result (λ b. (b.served.config ≡ S.default_config) × (b.served.words.generator ≡ generator)
             × ((m : Member) → load_in b.served.words.loads m ≡ 0)) }
-        ensures id { IfOk result (λ b. (key_of : Member → Member) (events : List Event)
-            → IsRegistryAfter R.gives key_of events registry.old → b.served.view.id ≡ registered_after events + 1) }
+        ensures id { IfOk result (λ b. HoldsOf R.gives registry.old (λ key_of events. b.served.view.id ≡ registered_after events + 1)) }
         ensures refused { IfErr result (λ r. (read : List (Bor (List ℕ))) × Drains I.next_gives texts read
-            × IsTextsRefusalIn R.gives registry.old read (λ members. S.refusal members S.default_config) r) }
-        ensures err { OnErr result ((key_of : Member → Member) (events : List Event) → IsRegistryAfter R.gives key_of events registry.old
-            → IsRegistryAfter R.gives key_of events registry.new
-            ⊎ IsRegistryAfter R.gives key_of (Marked (registered_after events + 1) ∷ one_more events) registry.new) }
+            × IsTextsRefusal R.gives registry.old read (λ members. S.refusal members S.default_config) r) }
+        ensures err { OnErr result (HoldsOf R.gives registry.old (λ key_of events. IsRegistryAfter R.gives key_of events registry.new
+            ⊎ IsRegistryAfter R.gives key_of (Marked (registered_after events + 1) ∷ one_more events) registry.new)) }
         ensures one_registry { registry.new.id ≡ registry.old.id }
     {
         let found = Static::try_from_iter(alloc, net, texts)?;
@@ -175,9 +164,7 @@ impl<S: BackendSelection, G: Rng + Drop, D: ServiceDiscovery + Drop> LoadBalance
         ensures updated { OnOk result (IsUpdated D.finds R.gives self.old.discovery self.old.served registry.old S.refusal K.reads clock.old
             clock.new self.new.served registry.new self.new.timing) }
         ensures err { OnErr result (After self.old.served (λ e. Stands e self.new.served)) }
-        ensures registry_err { OnErr result ((key_of : Member → Member) (events : List Event)
-            → IsRegistryAfter R.gives key_of events registry.old
-            → IsRegistryAfter R.gives key_of events registry.new) }
+        ensures registry_err { OnErr result (KeepsHistory R.gives registry.old registry.new) }
         ensures kept { OnErr result (self.new ≡ record self.old { served = record self.old.served { view = self.new.served.view } }) }
         ensures refused { IfErr result (IsRefusal D.finds R.gives self.old.discovery self.old.served registry.old S.refusal) }
         ensures discovery { self.new.discovery ≡ self.old.discovery }
@@ -258,8 +245,7 @@ impl<S: BackendSelection, G: Rng + Drop, D: ServiceDiscovery + Drop> LoadBalance
     ///
     /// Selections go on in what is served; another membership is refused `NoSuch`. It takes no memory.
     pub fn leave<R: KeyRule + Drop>(&self, registry: &mut Registry<R>)
-        ensures registry { (key_of : Member → Member) (events : List Event) → IsRegistryAfter R.gives key_of events registry.old
-            → IsRegistryAfter R.gives key_of (Marked self.now.served.view.id ∷ events) registry.new }
+        ensures registry { Grows R.gives registry.old (λ events. Marked self.now.served.view.id ∷ events) registry.new }
         ensures one_registry { registry.new.id ≡ registry.old.id }
     {
         registry.remove_view(self.served.id());

@@ -1,5 +1,5 @@
 //! A discovery with a group of slots, each of which serves a selector of its own that is rebuilt apart from an update.
-ghost use Rattle.std.specs.Prelude.{◌≡◌, ◌↔◌, ◌<◌, ◌≤◌, ◌+◌, ◌^◌, ◌∷◌, [], ℕ, List, length, map, Ok, Err, Some, None};
+ghost use Rattle.std.specs.Prelude.{◌≡◌, ◌↔◌, ◌<◌, ◌≤◌, ◌+◌, ◌^◌, ◌∷◌, [], ℕ, length, map, Ok, Err, Some, None};
 ghost use Rattle.std.specs.Prelude.{IfOk, IfErr, IsErrOf, IsTrue, OnOk, OnErr};
 ghost use Rattle.lb_select_base.specs.Backends.{Member};
 ghost use Rattle.lb_select_base.specs.Loads.{SetsLoad, load_in};
@@ -7,8 +7,8 @@ ghost use Rattle.lb_select_base.specs.Refusals.{least, memory_apart};
 ghost use Rattle.lb_rebuild_core.specs.SlotsCalls.{SelectsIn, at_slot};
 ghost use Rattle.lb_rebuild_core.specs.SlotsHistory.{newest, past_of, served, coalesced, failed, timing as timing_after};
 ghost use Rattle.lb_rebuild_core.specs.SlotsHistory.{Cancelled, is_cancelled};
-ghost use Rattle.lb_health_core.specs.Registry.{IsRegistryAfter};
-ghost use Rattle.lb_health_core.specs.RegistryEvents.{Event, Applied, Marked, Registered, registered_after};
+ghost use Rattle.lb_health_core.specs.Registry.{HoldsOf, Grows, KeepsHistory};
+ghost use Rattle.lb_health_core.specs.RegistryEvents.{Applied, Marked, Registered, registered_after};
 ghost use Rattle.lb_rebuild_core.specs.GroupCalls.{AcceptsBy, IsMakingRefusal, Judges, after_select, served_at};
 ghost use Rattle.lb_rebuild_core.specs.GroupHistory.{in_group, slot_events};
 ghost use Rattle.lb_rebuild_core.specs.GroupStates.{After, Becomes, SameSite, Stands};
@@ -22,7 +22,7 @@ use crate::slot_configs::{configs_of, least_cause};
 use crate::timings::{SelectorUpdateTimings, UpdateTimings};
 use lb_health_core::keys::KeyRule;
 use lb_health_core::registry::Registry;
-use lb_health_view::discovery::{DiscoverySource, ServiceDiscovery};
+use lb_health_view::discovery::{BoxedDiscovery, DiscoverySource, ServiceDiscovery};
 use lb_rebuild_core::answers::Selection;
 use lb_rebuild_core::gate::GateCore;
 use lb_rebuild_core::group::GroupCore;
@@ -37,7 +37,7 @@ use std::alloc::Global;
 /// A discovery, the group that its backends reach, the loads by which its slots select, and how long the last accepted update took. The
 /// group's own calls build, publish and destroy the selectors of its slots.
 #[derive(Drop)]
-pub struct LoadBalancerGroupCore<S: BackendSelection, D> {
+pub struct LoadBalancerGroupCore<S: BackendSelection, D = BoxedDiscovery> {
     pub discovery: DiscoverySource<D>,
     pub group: GroupCore<Configured<S>>,
     pub loads: Loads,
@@ -65,17 +65,13 @@ impl<S: BackendSelection, D: ServiceDiscovery + Drop> LoadBalancerGroupCore<S, D
         ensures site { IfOk result (λ b. b.group.registry ≡ registry.old.id) }
         ensures one_registry { registry.new.id ≡ registry.old.id }
         ensures gate { IfOk result (λ b. b.group.group.gate ≡ gate.now.id) }
-        ensures id { IfOk result (λ b. (key_of : Member → Member) (events : List Event)
-            → IsRegistryAfter R.gives key_of events registry.old → b.group.view.id ≡ registered_after events + 1) }
+        ensures id { IfOk result (λ b. HoldsOf R.gives registry.old (λ key_of events. b.group.view.id ≡ registered_after events + 1)) }
         ensures parts { IfOk result (λ b. (b.discovery ≡ discovery) × (b.timing ≡ None) × ((m : Member) → load_in b.loads m ≡ 0)) }
-        ensures registry { OnOk result ((key_of : Member → Member) (events : List Event)
-            → IsRegistryAfter R.gives key_of events registry.old
-            → IsRegistryAfter R.gives key_of (Applied ∷ Registered ∷ events) registry.new) }
-        ensures err { OnErr result ((key_of : Member → Member) (events : List Event) → IsRegistryAfter R.gives key_of events registry.old
-            → IsRegistryAfter R.gives key_of events registry.new) }
-        ensures exhausted { (key_of : Member → Member) (events : List Event) → IsRegistryAfter R.gives key_of events registry.old
-            → memory_apart (least (map (S.refusal []) (slot_configs S.default_config configs.items))) ≡ None
-            → (IsErrOf result Refusal.NumbersExhausted ↔ (2 ^ 64 ≤ registered_after events + 1)) }
+        ensures registry { OnOk result (Grows R.gives registry.old (λ events. Applied ∷ Registered ∷ events) registry.new) }
+        ensures err { OnErr result (KeepsHistory R.gives registry.old registry.new) }
+        ensures exhausted { HoldsOf R.gives registry.old (λ key_of events. memory_apart (least (map (S.refusal [])
+            (slot_configs S.default_config configs.items))) ≡ None → (IsErrOf result Refusal.NumbersExhausted
+            ↔ (2 ^ 64 ≤ registered_after events + 1))) }
         ensures refused { IsMakingRefusal (least (map (S.refusal []) (slot_configs S.default_config configs.items))) result }
     {
         match least_cause::<S>(alloc, configs.as_slice()) {
@@ -128,9 +124,7 @@ impl<S: BackendSelection, D: ServiceDiscovery + Drop> LoadBalancerGroupCore<S, D
         ensures updated { IfOk result (λ s. IsGroupUpdated D.finds R.gives self.old.discovery self.old.group registry.old
             K.reads clock.old clock.new self.new.group registry.new self.new.timing s) }
         ensures err { OnErr result (After self.old.group (λ made e. Stands made e self.new.group)) }
-        ensures registry_err { OnErr result ((key_of : Member → Member) (events : List Event)
-            → IsRegistryAfter R.gives key_of events registry.old
-            → IsRegistryAfter R.gives key_of events registry.new) }
+        ensures registry_err { OnErr result (KeepsHistory R.gives registry.old registry.new) }
         ensures timing_err { OnErr result (self.new.timing ≡ self.old.timing) }
         ensures refused { IfErr result (IsGroupRefusal D.finds R.gives self.old.discovery self.old.group registry.old) }
         ensures discovery { self.new.discovery ≡ self.old.discovery }
@@ -162,10 +156,9 @@ impl<S: BackendSelection, D: ServiceDiscovery + Drop> LoadBalancerGroupCore<S, D
         random: &[u64],
     ) -> Selection
         requires registry { registry.now.id ≡ self.old.group.registry }
-        ensures answers { (key_of : Member → Member) (events : List Event) → IsRegistryAfter R.gives key_of events registry.now
-            → After self.old.group (λ made e. SelectsIn S.may_draw_random S.walks
-            (Judges key_of events made e (served_at slot e)) (load_in self.old.loads)
-            made (slot_events e) slot key.now max_iterations random.now result) }
+        ensures answers { HoldsOf R.gives registry.now (λ key_of events. After self.old.group
+            (λ made e. SelectsIn S.may_draw_random S.walks (Judges key_of events made e (served_at slot e)) (load_in self.old.loads) made
+            (slot_events e) slot key.now max_iterations random.now result)) }
         ensures stands { After self.old.group (λ made e. Stands made (after_select made slot result e) self.new.group) }
         ensures kept { self.new ≡ record self.old { group = self.new.group } }
         ensures site { SameSite self.old.group self.new.group }
@@ -196,10 +189,9 @@ impl<S: BackendSelection, D: ServiceDiscovery + Drop> LoadBalancerGroupCore<S, D
     ) -> Selection
         requires accept { F.IsAlwaysCallable accept.now }
         requires registry { registry.now.id ≡ self.old.group.registry }
-        ensures answers { (key_of : Member → Member) (events : List Event) → IsRegistryAfter R.gives key_of events registry.now
-            → After self.old.group (λ made e. SelectsIn S.may_draw_random S.walks
-            (AcceptsBy F.Fn accept.now (Judges key_of events made e (served_at slot e))) (load_in self.old.loads)
-            made (slot_events e) slot key.now max_iterations random.now result) }
+        ensures answers { HoldsOf R.gives registry.now (λ key_of events. After self.old.group
+            (λ made e. SelectsIn S.may_draw_random S.walks (AcceptsBy F.Fn accept.now (Judges key_of events made e (served_at slot e)))
+            (load_in self.old.loads) made (slot_events e) slot key.now max_iterations random.now result)) }
         ensures stands { After self.old.group (λ made e. Stands made (after_select made slot result e) self.new.group) }
         ensures kept { self.new ≡ record self.old { group = self.new.group } }
         ensures site { SameSite self.old.group self.new.group }
@@ -234,8 +226,7 @@ impl<S: BackendSelection, D: ServiceDiscovery + Drop> LoadBalancerGroupCore<S, D
         ensures stands { Becomes self.old.group (in_group (Cancelled ∷ [])) self.new.group }
         ensures kept { self.new ≡ record self.old { group = self.new.group } }
         ensures site { SameSite self.old.group self.new.group }
-        ensures registry { (key_of : Member → Member) (events : List Event) → IsRegistryAfter R.gives key_of events registry.old
-            → IsRegistryAfter R.gives key_of (Marked self.old.group.view.id ∷ events) registry.new }
+        ensures registry { Grows R.gives registry.old (λ events. Marked self.old.group.view.id ∷ events) registry.new }
         ensures one_registry { registry.new.id ≡ registry.old.id }
     {
         self.group.cancel(registry);

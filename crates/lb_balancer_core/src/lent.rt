@@ -1,9 +1,7 @@
 //! The backends of a balancer, borrowed with their registry: readings, flags and checks, but no call that updates them.
-ghost use Rattle.std.specs.Prelude.{◌≡◌, ◌↔◌, ◌∷◌, List, Err, IfOk, IsTrue, OnErr};
+ghost use Rattle.std.specs.Prelude.{◌≡◌, ◌↔◌, ◌∷◌, Err, IfOk, IsTrue, OnErr};
 ghost use Rattle.std.specs.Arc.{arc_value};
-ghost use Rattle.lb_select_base.specs.Backends.{Member};
-ghost use Rattle.lb_health_core.specs.Registry.{IsRegistryAfter};
-ghost use Rattle.lb_health_core.specs.RegistryEvents.{Event};
+ghost use Rattle.lb_health_core.specs.Registry.{HoldsOf};
 ghost use Rattle.lb_rebuild_core.specs.SlotsHistory.{newest};
 ghost use Rattle.lb_health_view.specs.Passes.{IsPassed};
 ghost use Rattle.lb_health_view.specs.RegistrySide.{IsReady};
@@ -64,9 +62,8 @@ impl<'a, 'x, S: BackendSelection, G: Rng + Drop, D, R: KeyRule + Drop> LentBacke
 
     /// Returns whether a backend is ready in the newest membership, without taking memory.
     pub fn ready(&self, backend: &Backend) -> bool
-        ensures { (key_of : Member → Member) (events : List Event)
-            → IsRegistryAfter R.gives key_of events self.now.registry.now
-            → After self.now.balancer.now.served (λ e. Judges key_of events e backend.now result) }
+        ensures { HoldsOf R.gives self.now.registry.now (λ key_of events. After self.now.balancer.now.served
+            (λ e. Judges key_of events e backend.now result)) }
     {
         let balancer = &*self.balancer;
         let registry = &*self.registry;
@@ -143,10 +140,8 @@ impl<'a, 'x, S: BackendSelection, D, R: KeyRule + Drop> LentGroupBackends<'a, 'x
 
     /// Returns whether a backend is ready in the newest membership, without taking memory.
     pub fn ready(&self, backend: &Backend) -> bool
-        ensures { (key_of : Member → Member) (events : List Event)
-            → IsRegistryAfter R.gives key_of events self.now.registry.now
-            → group.After self.now.balancer.now.group (λ made e. IsTrue result
-            ↔ IsReady key_of (group.views_of made e) events (newest (slot_events e)) backend.now) }
+        ensures { HoldsOf R.gives self.now.registry.now (λ key_of events. group.After self.now.balancer.now.group
+            (λ made e. IsTrue result ↔ IsReady key_of (group.views_of made e) events (newest (slot_events e)) backend.now)) }
     {
         let balancer = &*self.balancer;
         let registry = &*self.registry;

@@ -1,5 +1,5 @@
 //! A view with the selector that is built of its newest membership: the two change as one, or not at all.
-ghost use Rattle.std.specs.Prelude.{◌≡◌, ◌↔◌, ◌≤◌, ◌+◌, ◌-◌, ◌^◌, ◌∷◌, [], ℕ, List, None, MatchOption, true, false, unwrap_or};
+ghost use Rattle.std.specs.Prelude.{◌≡◌, ◌↔◌, ◌≤◌, ◌+◌, ◌-◌, ◌^◌, ◌∷◌, [], ℕ, None, MatchOption, true, false, unwrap_or};
 ghost use Rattle.std.specs.Prelude.{IfOk, IfErr, IsErrOf, OnOk, OnErr};
 ghost use Rattle.std.specs.Arc.{arc_value};
 ghost use Rattle.std.specs.Option.{option_or};
@@ -7,11 +7,11 @@ ghost use Rattle.lb_select_base.specs.Backends.{Member};
 ghost use Rattle.lb_select_base.specs.Refusals.{Refuses, memory_apart};
 ghost use Rattle.lb_select_base.specs.Loads.{SetsLoad, load_in};
 ghost use Rattle.lb_select_base.specs.Memberships.{same_members};
-ghost use Rattle.lb_health_core.specs.Registry.{IsRegistryAfter};
-ghost use Rattle.lb_health_core.specs.RegistryEvents.{Event, Applied, Registered, registered_after};
-ghost use Rattle.lb_health_view.specs.Views.{IsViewAfter};
+ghost use Rattle.lb_health_core.specs.Registry.{IsRegistryAfter, HoldsOf, Grows, KeepsHistory};
+ghost use Rattle.lb_health_core.specs.RegistryEvents.{Applied, Registered, registered_after};
+ghost use Rattle.lb_health_view.specs.Views.{HoldsOfBoth};
 ghost use Rattle.lb_health_view.specs.RegistrySide.{registry_updated, settings_of};
-ghost use Rattle.lb_health_view.specs.ViewEvents.{ViewEvent, generation_after};
+ghost use Rattle.lb_health_view.specs.ViewEvents.{generation_after};
 ghost use Rattle.lb_rebuild_core.specs.GroupCalls.{AcceptsBy, IsMakingRefusal};
 ghost use Rattle.lb_balancer_core.specs.Choices.{Chooses};
 ghost use Rattle.lb_balancer_core.specs.Balancer.{After, Drew, History, IsJudged, Judges, Set, Stands, members_now, update_cause};
@@ -34,6 +34,14 @@ use std::alloc::Global;
 use std::collections::BTreeSet;
 use std::marker::Model;
 use std::sync::Arc;
+
+/// What a `Served` is made of: a view, the selector of its newest membership, and the generator of random words.
+#[derive(Drop)]
+pub struct ServedParts<S: BackendSelection, G: Drop> {
+    pub view: ViewCore,
+    pub selector: Arc<S>,
+    pub generator: G,
+}
 
 /// A view of a registry, and the selector that is served: one of the view's newest membership, with a source of words whose
 /// counter of tickets began at 0 when it was built.
@@ -96,16 +104,12 @@ impl<S: BackendSelection, G: Rng + Drop> Served<S, G> {
     ) -> Result<Served<S, G>, Refusal>
         ensures stands { IfOk result (λ v. Stands [] v × (v.config ≡ unwrap_or config S.default_config)
             × (v.words.generator ≡ generator) × ((m : Member) → load_in v.words.loads m ≡ 0)) }
-        ensures id { IfOk result (λ v. (key_of : Member → Member) (events : List Event) → IsRegistryAfter R.gives key_of events registry.old
-            → v.view.id ≡ registered_after events + 1) }
-        ensures registry { OnOk result ((key_of : Member → Member) (events : List Event)
-            → IsRegistryAfter R.gives key_of events registry.old
-            → IsRegistryAfter R.gives key_of (Applied ∷ Registered ∷ events) registry.new) }
-        ensures err { OnErr result ((key_of : Member → Member) (events : List Event) → IsRegistryAfter R.gives key_of events registry.old
-            → IsRegistryAfter R.gives key_of events registry.new) }
-        ensures exhausted { (key_of : Member → Member) (events : List Event) → IsRegistryAfter R.gives key_of events registry.old
-            → memory_apart (S.refusal [] (unwrap_or config S.default_config)) ≡ None
-            → (IsErrOf result Refusal.NumbersExhausted ↔ (2 ^ 64 ≤ registered_after events + 1)) }
+        ensures id { IfOk result (λ v. HoldsOf R.gives registry.old (λ key_of events. v.view.id ≡ registered_after events + 1)) }
+        ensures registry { OnOk result (Grows R.gives registry.old (λ events. Applied ∷ Registered ∷ events) registry.new) }
+        ensures err { OnErr result (KeepsHistory R.gives registry.old registry.new) }
+        ensures exhausted { HoldsOf R.gives registry.old (λ key_of events. memory_apart (S.refusal []
+            (unwrap_or config S.default_config)) ≡ None → (IsErrOf result Refusal.NumbersExhausted
+            ↔ (2 ^ 64 ≤ registered_after events + 1))) }
         ensures refused { IsMakingRefusal (S.refusal [] (unwrap_or config S.default_config)) result }
         ensures one_registry { registry.new.id ≡ registry.old.id }
     {
@@ -144,20 +148,17 @@ impl<S: BackendSelection, G: Rng + Drop> Served<S, G> {
         settings: Settings,
         clock: &mut K,
     ) -> Result<Option<u128>, Refusal>
-        ensures updated { (key_of : Member → Member) (events : List Event) → IsRegistryAfter R.gives key_of events registry.old
-            → After self.old (λ e. Refuses
-            (update_cause (S.refusal members.keys self.old.config) key_of self.old.view.id members.keys events e)
-            (λ _. Stands (updated key_of self.old.view.id members.keys (settings_of settings.entries) events e) self.new
-            × IsRegistryAfter R.gives key_of (registry_updated key_of self.old.view.id members.keys (view_events e) events) registry.new)
-            result) }
+        ensures updated { HoldsOf R.gives registry.old (λ key_of events. After self.old (λ e. Refuses (update_cause
+            (S.refusal members.keys self.old.config) key_of self.old.view.id members.keys events e) (λ _. Stands
+            (updated key_of self.old.view.id members.keys (settings_of settings.entries) events e) self.new
+            × IsRegistryAfter R.gives key_of (registry_updated key_of self.old.view.id members.keys
+            (view_events e) events) registry.new) result)) }
         ensures changed { IfOk result (λ build. After self.old (λ e. MatchOption build
             (same_members members.keys (members_now e) ≡ true) (λ d. same_members members.keys (members_now e) ≡ false))) }
         ensures readings { IfOk result (λ build. MatchOption build (clock.new ≡ clock.old) (λ d. (before : ℕ) × ((after : ℕ)
             × Reads K.reads clock.old (before ∷ after ∷ []) clock.new × (d ≡ after - before)))) }
         ensures err { OnErr result (After self.old (λ e. Stands e self.new)) }
-        ensures registry_err { OnErr result ((key_of : Member → Member) (events : List Event)
-            → IsRegistryAfter R.gives key_of events registry.old
-            → IsRegistryAfter R.gives key_of events registry.new) }
+        ensures registry_err { OnErr result (KeepsHistory R.gives registry.old registry.new) }
         ensures kept { OnErr result (self.new ≡ record self.old { view = self.new.view }) }
         ensures words { (self.new.words.generator ≡ self.old.words.generator) × (self.new.words.loads ≡ self.old.words.loads) }
         ensures id { self.new.view.id ≡ self.old.view.id }
@@ -189,6 +190,31 @@ impl<S: BackendSelection, G: Rng + Drop> Served<S, G> {
         let _view = &self.view;
     }
 
+    /// Returns what it is made of, for what serves the same in another way. Configuration, loads and counter are let go.
+    pub fn into_parts(self) -> ServedParts<S, G>
+        ensures view { result.view ≡ self.view }
+        ensures selector { (S.members (arc_value result.selector) ≡ self.members)
+            × (S.built_with (arc_value result.selector) ≡ self.config) }
+        ensures generator { result.generator ≡ self.words.generator }
+    {
+        let Served {
+            view,
+            config: _,
+            selector,
+            words,
+        } = self;
+        let CoreWords {
+            tickets: _,
+            generator,
+            loads: _,
+        } = words;
+        ServedParts {
+            view,
+            selector,
+            generator,
+        }
+    }
+
     /// Returns the number of the view in its registry.
     pub fn id(&self) -> u64
         ensures { result ≡ self.now.view.id }
@@ -215,8 +241,7 @@ impl<S: BackendSelection, G: Rng + Drop> Served<S, G> {
 
     /// Returns whether a backend is ready in the newest membership, without taking memory.
     pub fn ready<R: KeyRule + Drop>(&self, registry: &Registry<R>, backend: &Backend) -> bool
-        ensures { (key_of : Member → Member) (events : List Event) → IsRegistryAfter R.gives key_of events registry.now
-            → After self.now (λ e. Judges key_of events e backend.now result) }
+        ensures { HoldsOf R.gives registry.now (λ key_of events. After self.now (λ e. Judges key_of events e backend.now result)) }
     {
         self.view.ready(registry, backend)
     }
@@ -324,10 +349,9 @@ fn build<S: BackendSelection, R: KeyRule + Drop>(
 ) -> Result<Arc<S>, Refusal>
     ensures made { IfOk result (λ s. (memory_apart (S.refusal members.now.keys (unwrap_or config.now S.default_config)) ≡ None)
         × (S.members (arc_value s) ≡ members.now.keys) × (S.built_with (arc_value s) ≡ unwrap_or config.now S.default_config)) }
-    ensures refused { IfErr result (λ r. (key_of : Member → Member) (views : List ViewEvent) (events : List Event)
-        → IsViewAfter views view.now → IsRegistryAfter R.gives key_of events registry.now
-        → r ≡ unwrap_or (option_or (memory_apart (S.refusal members.now.keys (unwrap_or config.now S.default_config)))
-        (view_cause key_of view.now.id members.now.keys events views)) Refusal.OutOfMemory) }
+    ensures refused { IfErr result (λ r. HoldsOfBoth R.gives view.now registry.now (λ key_of views events. r
+        ≡ unwrap_or (option_or (memory_apart (S.refusal members.now.keys (unwrap_or config.now S.default_config)))
+        (view_cause key_of view.now.id members.now.keys events views)) Refusal.OutOfMemory)) }
 {
     match selector_of::<S>(alloc, members, config) {
         Ok(selector) => Ok(selector),

@@ -6,6 +6,7 @@ pub(crate) const SCRIPTS: &[&str] = &[
     "a-reader-stays",
     "abandoned-build",
     "address-before-group",
+    "back-by-its-setting",
     "bad-line",
     "cancelled-group",
     "cancelled-view",
@@ -56,6 +57,7 @@ pub(crate) const SCRIPTS: &[&str] = &[
     "second-fallback",
     "served-generation-judges",
     "settings-reach-the-newest",
+    "slots-at-two-generations",
     "text-keys",
     "three-groups-two-gates",
     "tickets-of-selections",
@@ -69,9 +71,11 @@ pub(crate) const SCRIPTS: &[&str] = &[
     "unhealthy-twice",
     "unix-paths",
     "verdict-of-another-word",
+    "verdicts-of-two-registries",
     "wait-after-a-failure",
     "weight-too-large",
     "weights",
+    "weights-while-a-build-is-held",
 ];
 
 /// A script in data/ that is run a step at a time, and its answers to `counts` and `timing` after a build was given again.

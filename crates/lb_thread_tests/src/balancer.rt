@@ -2,7 +2,7 @@
 //! of running threads.
 mod beside;
 mod calls;
-mod fixtures;
+pub(crate) mod fixtures;
 mod leaving;
 mod loads;
 mod runs;

@@ -1,10 +1,12 @@
-//! Groups that threads share: a table of cases, each of which is played on two new groups of two slots on one gate.
+//! Groups that threads share: a table of cases, each of which is played on two new groups of two slots on one gate; and a group whose slots
+//! are of two kinds.
 
 mod builds;
 mod handles;
 mod moments;
 mod passes;
 mod runs;
+mod slots;
 mod staying;
 mod tickets;
 mod turns;

@@ -25,6 +25,8 @@ enum Beside {
     Publishes,
     // The same, once the service is ready; the end is sent once the target was checked.
     PublishesAndEnds,
+    // The same, but before the end another view brings the target too, both views leave, and a new one brings it again.
+    ComesBackAndEnds,
 }
 
 // What becomes of the signal before a service begins.
@@ -54,7 +56,7 @@ struct Row {
     wanted: Told,
 }
 
-const ROWS: [Row; 9] = [
+const ROWS: [Row; 10] = [
     // Without a frequency the one target is checked once, the service is ready, and it is done.
     Row {
         name: "one pass",
@@ -133,6 +135,19 @@ const ROWS: [Row; 9] = [
         beside: Beside::PublishesAndEnds,
         wanted: (true, 1, true, false),
     },
+    // A second view of its target is no reason to check it again; once all views have left, a new one of it is.
+    Row {
+        name: "a new view wakes an hourly one",
+        is_empty: true,
+        has_check: true,
+        waits: false,
+        frequency: Some(3_600_000_000_000),
+        is_parallel: false,
+        step: 50_000_000,
+        signal: Signal::Stays,
+        beside: Beside::ComesBackAndEnds,
+        wanted: (true, 2, true, false),
+    },
     // A service ends while it waits for targets, and one that has no check while it has nothing to do.
     Row {
         name: "ends while it waits for targets",
@@ -194,14 +209,50 @@ fn happens<R: Abort + Wait + Clock + Drop>(
             came
         }
         Beside::Publishes => publish_later(rt, alloc, registry).is_ok(),
-        Beside::PublishesAndEnds => {
+        Beside::PublishesAndEnds | Beside::ComesBackAndEnds => {
             let is_ready = tells(rt, ready);
             let published = publish_later(rt, alloc, registry).is_ok();
-            let came = is_ready && published && counted(rt, checks, 1);
+            let checked = is_ready && published && counted(rt, checks, 1);
+            let came = match beside {
+                Beside::ComesBackAndEnds => checked && comes_back(rt, alloc, checks, registry),
+                _ => checked,
+            };
             send_end(signal);
             came
         }
     }
+}
+
+// Registers a view of the one target; its number.
+fn one_more_view<R: Abort + Wait + Clock + Drop>(
+    rt: &R,
+    alloc: Global,
+    registry: &Checked<R>,
+) -> u64 {
+    let id = registry.register_view(rt, alloc).expect(rt, "refused");
+    registry
+        .update_view(rt, alloc, id, one_backend(rt, alloc))
+        .expect(rt, "refused");
+    id
+}
+
+// A second view brings the target that was checked once; then both leave, and a third one brings it again. A service looks for targets each
+// second: so long is each step, and more. Whether it was checked no second time before, and was then; and whether none was left between.
+fn comes_back<R: Abort + Wait + Clock + Drop>(
+    rt: &R,
+    alloc: Global,
+    checks: &AtomicU64,
+    registry: &Checked<R>,
+) -> bool {
+    let second = one_more_view(rt, alloc, registry);
+    thread::sleep(rt, Duration::from_millis(1500));
+    let is_checked_once = checks.load(SeqCst) == 1;
+    registry.remove_view(rt, 1);
+    registry.remove_view(rt, second);
+    let is_empty = registry.target_count(rt, alloc) == Ok(0);
+    thread::sleep(rt, Duration::from_millis(2000));
+    one_more_view(rt, alloc, registry);
+    is_checked_once && is_empty && counted(rt, checks, 2)
 }
 
 // Waits, for ten seconds at most, until the service is ready; whether it is.

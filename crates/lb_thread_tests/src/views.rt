@@ -249,7 +249,23 @@ fn keep_flags<W: Abort + Wait>(rt: &W, alloc: Global, text: &mut String) {
     first.note(rt, text);
 }
 
-// A caller's function runs once for another membership and never for the same one; an old membership stays readable.
+// A pass over one registry checks no target of another, and what it finds down is ready there.
+fn check_apart<W: Abort + Log + Threads + Wait + Sync>(rt: &W, alloc: Global, text: &mut String) {
+    let site = Site::new(rt, alloc, HealthRegistry::new(alloc).expect(rt, "refused"));
+    let other = Site::new(rt, alloc, HealthRegistry::new(alloc).expect(rt, "refused"));
+    let first = site.view(rt, 0, 1);
+    let second = other.view(rt, 0, 1);
+    first.update(rt, 0b001);
+    second.update(rt, 0b001);
+    pass(rt, &first);
+    site.note(rt, text);
+    other.note(rt, text);
+    first.note(rt, text);
+    second.note(rt, text);
+}
+
+// A caller's function runs once for another membership and never for the same one; an old membership stays readable, and its members are
+// ready no longer once the function has run.
 fn tell_changes<W: Abort + Wait>(rt: &W, alloc: Global, text: &mut String) {
     let site = Site::new(rt, alloc, HealthRegistry::new(alloc).expect(rt, "refused"));
     let bench = site.view(rt, 0, 1);
@@ -259,7 +275,9 @@ fn tell_changes<W: Abort + Wait>(rt: &W, alloc: Global, text: &mut String) {
         bench.update(rt, 0b011),
     ];
     let old = bench.view.get_backend(rt).expect(rt, "refused");
+    bench.note(rt, text);
     let told = (told, bench.update(rt, 0b100));
+    bench.note(rt, text);
     let new = bench.view.get_backend(rt).expect(rt, "refused");
     let lengths = (old.len(), new.len());
     let generation = bench.view.generation(rt);
@@ -334,16 +352,17 @@ fn views_of_one_registry(rt: HostRuntime) {
     let mut text = String::new(alloc);
     share_checks(&rt, alloc, &mut text);
     share_addresses(&rt, alloc, &mut text);
+    check_apart(&rt, alloc, &mut text);
     assert_eq!(rt;
         text.as_str(),
-        " 3/3 no yes no no no yes 2/5 0/5 1/1 no no no no yes no"
+        " 3/3 no yes no no no yes 2/5 0/5 1/1 no no no no yes no 1/1 1/0 no no no yes no no"
     );
     text.clear();
     keep_flags(&rt, alloc, &mut text);
     tell_changes(&rt, alloc, &mut text);
     assert_eq!(rt;
         text.as_str(),
-        " no no no yes no no no yes no ([None, Some(2), None], Some(1)) (2, 1) 2"
+        " no no no yes no no no yes no yes yes no no no yes ([None, Some(2), None], Some(1)) (2, 1) 2"
     );
     text.clear();
     leave(&rt, alloc, &mut text);

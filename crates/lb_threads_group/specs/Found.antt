@@ -18,4 +18,4 @@ module _ {C R : Type 0} (gives : R → Member → Member → Type 0) where
   abbrev pub ReadyAt : SharedValue C R → ℕ → Member → Bool → Type 0
   ReadyAt site g b a =
       SeenBeside gives site (λ v x. HoldsOf gives x (λ key_of events. After v (λ made e. IsTrue a
-          ↔ IsReady key_of (views_of made e) events g b)))
+      ↔ IsReady key_of (views_of made e) events g b)))

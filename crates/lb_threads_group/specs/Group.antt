@@ -101,7 +101,7 @@ module _ {C R : Type 0} (gives : R → Member → Member → Type 0) where
   abbrev pub NewestReadyUnder : SharedValue C R → Member → Bool → Type 0
   NewestReadyUnder site b a =
       SeenBeside site (λ v x. HoldsOf gives x (λ key_of events. After v (λ made e. IsTrue a
-          ↔ IsReady key_of (views_of made e) events (newest (slot_events e)) b)))
+      ↔ IsReady key_of (views_of made e) events (newest (slot_events e)) b)))
 
   abbrev pub ScheduledUnder : SharedValue C R → List Member → List (Member × Bool) → ℕ → Result Scheduled Refusal → Type 0
   ScheduledUnder site members settings now r =

@@ -15,13 +15,12 @@ pub mod selection;
 pub mod simulation;
 
 pub use background::HealthCheckService;
-pub use lb_balancer::balancing::Balancing;
+pub use lb_background::lending::{LendsToThreads, SharedBackends};
 pub use lb_balancer::load_balancer::LoadBalancer;
 pub use lb_balancer::reader::BalancerReader;
 pub use lb_balancer::shown::Shown;
 pub use lb_balancer_core::configured::{Configured, SlotConfig};
 pub use lb_balancer_core::timings::{SelectorUpdateTimings, UpdateTimings};
-pub use lb_balancer_group::backends::SharedBackends;
 pub use lb_balancer_group::gate_refusal::GateRefusal;
 pub use lb_balancer_group::group::LoadBalancerGroup;
 pub use lb_balancer_group::reader::GroupReader;

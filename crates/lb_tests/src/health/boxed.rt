@@ -1,53 +1,73 @@
-//! What a caller boxes. A check that `new` makes goes into a box, which a pass takes as its check; so do an observer and a discovery.
+//! What a caller boxes is what a pass calls: a discovery, a check over the network, and the check's observer.
 use crate::asserted::assert_same;
-use crate::health::passes::update_by;
+use crate::health::passes::{is_ready, update_by};
+use crate::selection::fixtures::set_of;
 use lb_health_core::health_check::{
-    BoxedCheck, HealthCheck, HealthObserveCallback, IdentitySummary,
+    BoxedCheck, HealthObserve, HealthObserveCallback, IdentitySummary,
 };
 use lb_health_core::registry::RegistryCore;
-use lb_health_http::{NoObserver, TcpHealthCheck};
+use lb_health_http::TcpHealthCheck;
 use lb_health_view::discovery::{BoxedDiscovery, DiscoverySource, Static};
 use lb_health_view::passes::run_health_check;
 use lb_health_view::view::ViewCore;
+use lb_select_base::backend::Backend;
 use lb_select_base::refusal::Refusal;
 use log::Log;
 use std::alloc::Global;
+use std::sync::Arc;
+use std::sync::atomic::AtomicU64;
+use std::sync::atomic::Ordering::SeqCst;
 use std::test::Fail;
 
-// Updates a new view by the discovery, and checks its targets; how many members the update's callback was passed.
-fn updated(
+// An observer that adds 1 for each backend of weight 7 that became unhealthy, and 10 for any other report.
+#[derive(Drop)]
+struct Adds {
+    told: Arc<AtomicU64>,
+}
+
+impl HealthObserve for Adds {
+    fn observe(&self, target: &Backend, healthy: bool) {
+        let is_wanted = target.weight == 7 && !healthy;
+        self.told.fetch_add(if is_wanted { 1 } else { 10 }, SeqCst);
+    }
+}
+
+// Updates a new view by the discovery, and checks its first backend; whether that is ready before and after.
+fn checked(
     alloc: Global,
     source: &DiscoverySource<BoxedDiscovery>,
-    check: &impl HealthCheck,
+    check: &BoxedCheck,
     log: &impl Log,
-) -> Result<Option<usize>, Refusal> {
+) -> Result<[bool; 2], Refusal> {
     let mut registry = RegistryCore::new(alloc);
     let mut view = ViewCore::register(alloc, &mut registry)?;
-    let updated = update_by(alloc, source, &mut registry, &mut view)?;
+    update_by(alloc, source, &mut registry, &mut view)?;
+    let before = is_ready(&registry, &view);
     run_health_check(log, alloc, &mut registry, check)?;
-    Ok(updated)
+    Ok([before, is_ready(&registry, &view)])
 }
 
+// Where nobody listens, what the discovery found becomes unhealthy, and the observer is told so once.
 #[test]
-fn takes_a_boxed_check(rt: HostRuntime) -> Result<(), Fail> {
+fn boxes_are_called(rt: HostRuntime) -> Result<(), Fail> {
     let alloc = rt.alloc();
-    let boxed: BoxedCheck = Box::new(alloc, TcpHealthCheck::new(rt))?;
-    let mut registry = RegistryCore::new(alloc);
-    run_health_check(&rt, alloc, &mut registry, &boxed)?;
-    Ok(())
-}
-
-#[test]
-fn takes_a_boxed_observer_and_discovery(rt: HostRuntime) -> Result<(), Fail> {
-    let alloc = rt.alloc();
-    let observer: HealthObserveCallback = Box::new(alloc, NoObserver)?;
+    let told = Arc::new(alloc, AtomicU64::new(0))?;
+    let adds = Adds {
+        told: Arc::try_clone(&told)?,
+    };
+    let observer: HealthObserveCallback = Box::new(alloc, adds)?;
     let check = TcpHealthCheck::new(rt).with_callbacks(Some(observer), IdentitySummary);
-    let found: BoxedDiscovery = Box::new(alloc, Static::default(alloc))?;
+    let check: BoxedCheck = Box::new(alloc, check)?;
+    let found = Static::new(set_of(alloc, &[("127.0.0.1:1", 7)])?);
+    let found: BoxedDiscovery = Box::new(alloc, found)?;
     let source = DiscoverySource::Boxed(found);
+    let ready = checked(alloc, &source, &check, &rt);
+    let plain: BoxedCheck = Box::new(alloc, TcpHealthCheck::new(rt))?;
+    let ready = [ready, checked(alloc, &source, &plain, &rt)];
     assert_same(
         &rt,
-        &updated(alloc, &source, &check, &rt),
-        &Ok(None),
+        &(ready, told.load(SeqCst)),
+        &([Ok([true, false]); 2], 1),
         &"what is boxed",
     );
     Ok(())

@@ -298,8 +298,8 @@ fn view_of(
     Ok(view)
 }
 
-// Whether the backend of a view is ready.
-fn is_ready(registry: &RegistryCore, view: &ViewCore) -> bool {
+/// Returns whether the first backend of a view is ready.
+pub(crate) fn is_ready(registry: &RegistryCore, view: &ViewCore) -> bool {
     view.members()
         .first()
         .is_some_and(|backend| view.ready(registry, backend))

@@ -1,5 +1,7 @@
 //! A shared balancer in one thread: what its calls do to what is served. What was seen is noted as a text.
-use crate::balancer::fixtures::{Bench, FAULT, HEAVY, InTurn, ROWS, SecondDown, note};
+use crate::balancer::fixtures::{
+    Bench, DISABLES, ENABLES, FAULT, HEAVY, InTurn, ROWS, SecondDown, note,
+};
 use crate::service_fixtures::Ticks;
 use log::Log;
 use pingora_load_balancing::health_check::{NoRule, Rule};
@@ -45,7 +47,7 @@ fn update<R: Abort + Wait + Clock + Copy + Drop>(
     }
 }
 
-// An update, two that are refused, and one that isn't.
+// An update, two that are refused, two to the same membership with a setting, and one to another.
 fn updates<R: Abort + Wait + Clock + Copy + Drop>(
     rt: &R,
     bench: &Bench<RoundRobin, R>,
@@ -57,6 +59,10 @@ fn updates<R: Abort + Wait + Clock + Copy + Drop>(
     update(rt, bench, FAULT, text);
     update(rt, bench, HEAVY, text);
     look(rt, bench, 1, text);
+    update(rt, bench, DISABLES, text);
+    look(rt, bench, 3, text);
+    update(rt, bench, ENABLES, text);
+    look(rt, bench, 3, text);
     update(rt, bench, ROWS, text);
     look(rt, bench, 1, text);
 }
@@ -88,6 +94,7 @@ fn checks<R: Abort + Log + Threads + Wait + Clock + Copy + Send + Sync + Drop>(
     let found = reader.select(rt, alloc, b"k", 1).expect(rt, "refused");
     note(rt, text, &found);
     balancer
+        .backends()
         .run_health_check(rt, alloc, false)
         .expect(rt, "refused");
     write!(text, " checked {}", bench.checks.asked.load(SeqCst)).expect(rt, "refused");
@@ -107,7 +114,8 @@ fn calls<R: Abort + Log + Threads + Wait + Clock + Copy + Send + Sync + Drop>(
 }
 
 // Before the first update nothing is served; after it the members come in turn, and another membership starts from a new ticket. A fault of
-// the discovery and a membership that makes no selector leave generation, timing, members and turns.
+// the discovery and a membership that makes no selector leave generation, timing, members and turns. What the discovery disables is not
+// selected, and is once the discovery enables it: in the same membership, by the turns that go on.
 //
 // What a check finds down is selected no longer, by a thread that keeps what it saw neither. Before the checks the members come in turn;
 // after them the second one is looked at, the third drawn past the limit, and then the first comes again.
@@ -121,6 +129,8 @@ fn calls_are_served(rt: HostRuntime) {
         refused Discovery\n\
         refused WeightTooLarge\n\
         generation 1 took 10 5 1.0.0.3:80/1\n\
+        generation 1 took 5 0 1.0.0.1:80/1 1.0.0.3:80/1 1.0.0.1:80/1\n\
+        generation 1 took 5 0 1.0.0.2:80/1 1.0.0.3:80/1 1.0.0.1:80/1\n\
         generation 2 took 10 5 2.0.0.1:80/1\n \
         1.0.0.1:80/1 checked 3 none 1.0.0.1:80/1 none 1.0.0.2:80/1";
     assert_eq!(rt; text.as_str(), wanted);

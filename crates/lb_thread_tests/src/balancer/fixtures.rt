@@ -30,6 +30,12 @@ pub const GROWN: u64 = 3;
 /// The word by which a check finds the second backend up.
 pub const UP: u64 = 4;
 
+/// The word by which a discovery answers its first row, and disables the second backend of it.
+pub const DISABLES: u64 = 5;
+
+/// The word by which it answers its first row, and enables the second backend of it.
+pub const ENABLES: u64 = 6;
+
 /// A line between the test and what a balancer calls: how often that was called, whether it may answer, and what.
 #[derive(Drop)]
 pub struct Line {
@@ -39,8 +45,8 @@ pub struct Line {
 }
 
 impl Line {
-    // An open line that answers rows.
-    fn new() -> Line {
+    /// Returns an open line that answers rows.
+    pub fn new() -> Line {
         Line {
             asked: AtomicU64::new(0),
             open: AtomicU64::new(1),
@@ -96,8 +102,11 @@ pub fn listed(alloc: Global, texts: &[&str]) -> Result<BTreeSet<Backend>, Refusa
     Ok(set)
 }
 
-// The discovery in turn, with this line.
-fn in_turn<R: Abort + Clock + Copy + Drop>(rt: &R, line: &Arc<Line>) -> DiscoverySource<InTurn<R>> {
+/// Returns the discovery in turn, with this line.
+pub fn in_turn<R: Abort + Clock + Copy + Drop>(
+    rt: &R,
+    line: &Arc<Line>,
+) -> DiscoverySource<InTurn<R>> {
     DiscoverySource::Boxed(InTurn {
         rt: *rt,
         line: Arc::try_clone(line).expect(rt, "refused"),
@@ -112,18 +121,30 @@ fn heavy(alloc: Global) -> Result<BTreeSet<Backend>, Refusal> {
     Ok(set)
 }
 
+// The setting of the second backend by which a line's answer enables or disables it, if it does.
+fn setting(alloc: Global, answers: u64) -> Result<Settings, Refusal> {
+    let mut settings = Settings::new(alloc);
+    if answers == DISABLES || answers == ENABLES {
+        let second = Backend::new(alloc, "1.0.0.2:80")?;
+        settings.insert((second.addr.clone()?, 1), answers == ENABLES)?;
+    }
+    Ok(settings)
+}
+
 impl<R: Clock> ServiceDiscovery for InTurn<R> {
     fn discover(&self, alloc: Global) -> Result<Discovered, Refusal> {
         let turn = self.turn.fetch_add(1, SeqCst);
         self.line.call(&self.rt);
-        let set = match self.line.answers.load(SeqCst) {
+        let answers = self.line.answers.load(SeqCst);
+        let set = match answers {
             FAULT => return Err(Refusal::Discovery),
             HEAVY => heavy(alloc)?,
             GROWN => listed(alloc, &MORE)?,
+            DISABLES | ENABLES => listed(alloc, &FIRST)?,
             _ if turn % 2 == 0 => listed(alloc, &FIRST)?,
             _ => listed(alloc, &SECOND)?,
         };
-        Ok((set, Settings::new(alloc)))
+        Ok((set, setting(alloc, answers)?))
     }
 }
 
@@ -155,6 +176,14 @@ impl<R: Clock> HealthCheck for SecondDown<R> {
 
     fn health_threshold(&self, _success: bool) -> usize {
         1
+    }
+}
+
+/// Returns that check, with this line.
+pub fn second_down<R: Abort + Copy>(rt: &R, line: &Arc<Line>) -> SecondDown<R> {
+    SecondDown {
+        rt: *rt,
+        line: Arc::try_clone(line).expect(rt, "refused"),
     }
 }
 
@@ -206,12 +235,8 @@ impl<S: BackendSelection, R: Abort + Wait + Clock + Copy + Drop> Bench<S, R> {
 
     /// Sets the check.
     pub fn set_check(&self, rt: &R) {
-        let check = SecondDown {
-            rt: *rt,
-            line: Arc::try_clone(&self.checks).expect(rt, "refused"),
-        };
         self.balancer
-            .set_health_check(rt, check)
+            .set_health_check(rt, second_down(rt, &self.checks))
             .expect(rt, "refused");
     }
 

@@ -1,6 +1,7 @@
 //! Balancers that share a registry, and leave it.
 use crate::balancer::fixtures::{SecondDown, Tested, listed, note};
 use crate::service_fixtures::Ticks;
+use lb_threads_core::registry::{put_registry, take_registry};
 use pingora_load_balancing::discovery::{DiscoverySource, Static};
 use pingora_load_balancing::health_check::{NoRule, Rule};
 use pingora_load_balancing::prelude::RoundRobin;
@@ -71,7 +72,8 @@ fn leaves<R: Abort + Wait + Clock + Copy + Drop>(
     balancer.leave(rt);
 }
 
-// What leaves has no targets any more, and what else is in the registry stays; a balancer leaves when it is dropped.
+// What leaves has no targets any more, and what else is in the registry stays; a balancer leaves when it is dropped, also while the registry
+// is out of its lock.
 #[test]
 fn views_leave(rt: HostRuntime) {
     let alloc = rt.alloc();
@@ -84,7 +86,9 @@ fn views_leave(rt: HostRuntime) {
     leaves(&rt, alloc, &*registry, &second, &mut text);
     drop(second);
     select(&rt, alloc, &dropped, &mut text);
+    let held = take_registry(&registry, &rt);
     drop(dropped);
+    put_registry(&registry, held);
     count(&rt, alloc, &*registry, &mut text);
     select(&rt, alloc, &stays, &mut text);
     assert_eq!(rt; text.as_str(), " 3 2 false 1.0.0.3:80/1 1 1.0.0.1:80/1");

@@ -1,12 +1,8 @@
-//! Loads that are set while threads select: what goes by them, and that no selection holds their lock while it asks. Those of a group too.
-use crate::balancer::fixtures::{Bench, InTurn, SecondDown, listed, note};
-use crate::service_fixtures::Ticks;
-use lb_crowd::crowd::NoCheck;
-use pingora_load_balancing::discovery::{DiscoverySource, Static};
-use pingora_load_balancing::health_check::{HealthCheck, KeyRule, NoRule, Rule};
-use pingora_load_balancing::port::{LockedPort, worker_turn};
-use pingora_load_balancing::selection::{BackendSelection, LeastConnections};
-use pingora_load_balancing::{Backend, Backends, BalancerReader, LoadBalancerGroup, SharedGroup};
+//! Loads that are set while threads select: what goes by them, and that no selection holds their lock while it asks.
+use crate::balancer::fixtures::{Bench, InTurn, SecondDown, note};
+use pingora_load_balancing::health_check::{NoRule, Rule};
+use pingora_load_balancing::selection::LeastConnections;
+use pingora_load_balancing::{Backend, BalancerReader};
 use std::alloc::Global;
 use std::process::Abort;
 use std::sync::Wait;
@@ -86,91 +82,5 @@ fn loads_are_read(rt: HostRuntime) {
     let mut text = String::new(rt.alloc());
     loads(&rt, &bench, &mut text);
     let wanted = "3 1.0.0.2:80/1 1.0.0.2:80/1 1.0.0.3:80/1 1.0.0.3:80/1 1.0.0.3:80/1 1.0.0.2:80/1";
-    assert_eq!(rt; text.as_str(), wanted);
-}
-
-// A group that selects by loads.
-type Loaded = LoadBalancerGroup<LeastConnections, Static, Rule<NoRule>, NoCheck>;
-
-// Sets the load of the backend at this address, and notes what is selected then.
-fn load_one<R: Abort + Wait>(
-    rt: &R,
-    alloc: Global,
-    group: &Loaded,
-    loaded: (&str, u64),
-    text: &mut String,
-) {
-    let (address, load) = loaded;
-    let backend = Backend::new(alloc, address).expect(rt, "refused");
-    group
-        .set_load(rt, alloc, &backend, load)
-        .expect(rt, "refused");
-    let found = group.select(rt, alloc, 0, b"k", 3).expect(rt, "refused");
-    note(rt, text, &found);
-}
-
-// A turn of the worker of a group's only slot.
-fn turn<S: BackendSelection, K: KeyRule + Drop, C: HealthCheck + Drop, R: Abort + Wait>(
-    rt: &R,
-    alloc: Global,
-    group: &SharedGroup<S, K, C>,
-    clock: &mut Ticks,
-) {
-    let mut port = LockedPort::new(group, rt);
-    worker_turn(alloc, &mut port, 0, clock).expect(rt, "refused");
-}
-
-// Updates the group to these backends, rebuilds its slot, and notes what is selected then.
-fn rebuild<R: Abort + Wait>(
-    rt: &R,
-    alloc: Global,
-    group: &Loaded,
-    addresses: &[&str],
-    text: &mut String,
-) {
-    let set = listed(alloc, addresses).expect(rt, "refused");
-    let found: DiscoverySource<Static> = DiscoverySource::Static(Static::new(set));
-    let mut clock = Ticks { next: 0, step: 5 };
-    let shared = &**group.shared();
-    shared
-        .update(rt, alloc, &found, &mut clock)
-        .expect(rt, "refused");
-    // The second turn destroys what the first one retired.
-    for _ in 0..2 {
-        turn(rt, alloc, shared, &mut clock);
-    }
-    let selected = group.select(rt, alloc, 0, b"k", 3).expect(rt, "refused");
-    note(rt, text, &selected);
-}
-
-// Loads before the first rebuild, after it, and after two more.
-fn rebuilds<R: Abort + Wait>(rt: &R, alloc: Global, group: &Loaded, text: &mut String) {
-    load_one(rt, alloc, group, ("1.0.0.1:80", 7), text);
-    rebuild(rt, alloc, group, &["1.0.0.1:80", "1.0.0.2:80"], text);
-    load_one(rt, alloc, group, ("1.0.0.2:80", 9), text);
-    rebuild(rt, alloc, group, &["1.0.0.2:80", "1.0.0.3:80"], text);
-    rebuild(rt, alloc, group, &["1.0.0.1:80", "1.0.0.2:80"], text);
-    load_one(rt, alloc, group, ("1.0.0.1:80", 10), text);
-}
-
-// A group of one slot without workers, whose turns the tests take.
-fn group_of<R: Abort + Wait + Clock + Copy + Drop>(rt: &R, alloc: Global) -> Loaded {
-    let none = DiscoverySource::Static(Static::default(alloc));
-    let backends: Backends<Static, Rule<NoRule>, NoCheck> = Backends::new(rt, alloc, none).expect(
-        rt, "refused",
-    );
-    let mut configs = Vec::new(alloc);
-    configs.push(None).expect(rt, "refused");
-    let group = LoadBalancerGroup::from_backends_with_configs(rt, alloc, backends, configs);
-    group.expect(rt, "refused")
-}
-
-// The loads of a group outlive rebuilds to memberships without their backends.
-#[test]
-fn loads_outlive_rebuilds(rt: HostRuntime) {
-    let group = group_of(&rt, rt.alloc());
-    let mut text = String::new(rt.alloc());
-    rebuilds(&rt, rt.alloc(), &group, &mut text);
-    let wanted = " none 1.0.0.2:80/1 1.0.0.1:80/1 1.0.0.3:80/1 1.0.0.1:80/1 1.0.0.2:80/1";
     assert_eq!(rt; text.as_str(), wanted);
 }

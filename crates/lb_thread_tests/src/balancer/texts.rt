@@ -46,7 +46,7 @@ fn look<R: Abort + Wait + Clock + Copy + Drop>(
         let (discovery, build) = (timing.discovery_duration, timing.build_duration);
         write!(text, " took {discovery} {build}").expect(rt, "refused");
     }
-    let members = balancer.backends().get_backend(rt, alloc);
+    let members = balancer.backends().get_backend(rt);
     let members = members.expect(rt, "refused").len();
     write!(text, " members {members} ready").expect(rt, "refused");
     note_ready(rt, alloc, balancer, "1.0.0.1:80", text);

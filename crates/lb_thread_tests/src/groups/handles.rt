@@ -1,5 +1,6 @@
 //! What handles of groups answer: before their first update, after it, and once a worker was missing.
 use super::TURNS;
+use super::turns::turn;
 use lb_crowd::crowd::{Group, Handle};
 use log::Log;
 use pingora_load_balancing::Backend;
@@ -44,7 +45,8 @@ fn fresh<W: Abort + Wait + Clock + Copy + Drop>(
     ]
 }
 
-// What the borrowed backends of a handle show before its first update, after it, and once a flag is set.
+// What the borrowed backends of a handle show before its first update, after it, and once a flag is set. Its first slot, whose turns this
+// thread takes, selects the one member then, and nothing once that is disabled.
 fn lent<W: Abort + Wait + Clock + Copy + Drop>(
     rt: &W,
     alloc: Global,
@@ -57,13 +59,17 @@ fn lent<W: Abort + Wait + Clock + Copy + Drop>(
     let generation = group.update(rt, alloc, &mut RuntimeClock::new(*rt));
     let members = backends.get_backend(rt).expect(rt, "refused");
     let is_ready = backends.ready(rt, &one);
+    for _ in 0..2 {
+        turn(rt, alloc, &**group.shared(), 0);
+    }
+    let is_selected = selected(rt, alloc, group).as_ref() == Some(&one);
     backends.set_enable(rt, &one, false);
     [
         before == (0, false),
         generation == Ok(1),
         backends.generation(rt) == 1,
         members.len() == 1 && members.contains(&one),
-        is_ready,
+        is_ready && is_selected,
         !backends.ready(rt, &one),
         !backends.ready(rt, &other),
         selected(rt, alloc, group).is_none(),

@@ -1,10 +1,11 @@
 //! Runs of a group in the background. Some are shut down in the middle of an update, of a check, and of a build: what is under way goes on
-//! to its end, and what it did is kept. The last one updates again and again, and is shut down once its slots serve what was found.
+//! to its end, and what it did is kept. One updates again and again, and is shut down once its slots serve what was found; and one has
+//! nobody who could shut it down.
 use super::TURNS;
 use crate::noted::Noted;
 use lb_crowd::counted::{Counted, Counting, Counts};
 use lb_crowd::crowd::serves;
-use log::{Level, Logged};
+use log::{Level, Log, Logged};
 use pingora_load_balancing::background::{
     ReadyWatch, RuntimeClock, ServiceReadyNotifier, ShutdownSignal, ShutdownWatch, ready_pair,
     shutdown_pair,
@@ -21,7 +22,7 @@ use std::sync::atomic::AtomicU64;
 use std::sync::atomic::Ordering::SeqCst;
 use std::sync::{Arc, Wait};
 use std::thread;
-use std::thread::join;
+use std::thread::{Threads, join};
 use std::time::{Clock, Duration};
 
 // How many discoveries and how many checks there were.
@@ -244,10 +245,28 @@ fn end_after<W: Clock>(
     came
 }
 
+// Runs the group without frequencies once nobody can send its run's end any more; whether it has updated once more and its notifier was
+// notified when it ended.
+fn runs_alone<
+    W: Abort + Wait + Clock + Copy + Send + Sync + Drop + 'static,
+    L: Log + Threads + Wait + Copy + Send + Sync + 'static,
+>(rt: &W, logged: &L, alloc: Global, bench: &Bench<W>) -> bool {
+    let (signal, watch) = shutdown_pair(alloc).expect(rt, "refused");
+    let (notifier, ready) = ready_pair(alloc).expect(rt, "refused");
+    drop(signal);
+    let before = bench.calls.updates.load(SeqCst);
+    let mut clock = RuntimeClock::new(*rt);
+    bench
+        .group
+        .run(logged, alloc, &mut clock, &watch, Some(notifier));
+    let updates = bench.calls.updates.load(SeqCst).wrapping_sub(before);
+    updates == 1 && ready.is_ready()
+}
+
 // Runs that are shut down in their update, in their check, and while they wait for a build that is held. An update goes on to its end,
 // and its membership is kept. So does a check, and its verdict is kept. A build doesn't hold up the end; it is ended, and served. No
 // notifier is notified. Then a run that updates again and again: its notifier is notified once what it found is served, and an update
-// that is refused is logged and doesn't end it.
+// that is refused is logged and doesn't end it. At last one that nobody can shut down: it updates and notifies, and ends by itself.
 #[test]
 fn what_is_under_way_is_let_end(rt: HostRuntime) {
     let alloc = rt.alloc();
@@ -287,6 +306,8 @@ fn what_is_under_way_is_let_end(rt: HostRuntime) {
             (true, left)
         );
     }
+    bench.group.update_frequency = None;
+    assert!(rt; runs_alone(&rt, &logged, alloc, &bench));
     let said = "[ERROR lb_balancer_group::running] load balancer group update failed: Discovery\n";
     assert!(rt; noted.said(said));
 }

@@ -1,7 +1,7 @@
 -- The group that this handle shares got the flag.
 use Rattle.std.proofs.Common.{subst}
 use Rattle.lb_threads_group.specs.Group.{FlaggedUnder}
-use Rattle.lb_balancer_group.proofs.backends.SharedBackends.set_enable.Goals as goal
+use Rattle.lb_balancer_group.proofs.backends.LoadBalancerGroupLendsToThreads.flag.Goals as goal
 
 pub returns : goal.returns
 returns g c =
