@@ -7,14 +7,15 @@ ghost use Rattle.lb_balancer.specs.Selections.{SelectsFrom};
 use crate::balancing::Balancing;
 use crate::kept::KeptShown;
 use crate::load_balancer::LoadBalancer;
-use lb_health_core::health_check::HealthCheck;
-use lb_health_core::keys::KeyRule;
-use lb_health_view::discovery::ServiceDiscovery;
+use lb_health_core::health_check::{BoxedCheck, HealthCheck};
+use lb_health_core::keys::{KeyRule, Rule};
+use lb_health_view::discovery::{BoxedDiscovery, ServiceDiscovery};
 use lb_rebuild_core::group::ready_ones;
 use lb_select_base::backend::Backend;
 use lb_select_base::refusal::Refusal;
 use lb_select_base::walk::BackendSelection;
 use lb_threads_core::generators::SharedGenerator;
+use lb_threads_core::keyed::NoRule;
 use std::alloc::Global;
 use std::marker::Model;
 use std::sync::Wait;
@@ -22,7 +23,13 @@ use std::sync::Wait;
 /// A balancer with what it served last, and with random words of its own. While that is still served a selection takes no lock that another
 /// thread takes, and writes nothing that another thread reads but the tickets it draws: except for a candidate whose readiness may have
 /// changed since it was last asked for. What is served no longer is kept until the next selection.
-pub struct BalancerReader<'b, S: BackendSelection, D, R: KeyRule + Drop, C> {
+pub struct BalancerReader<
+    'b,
+    S: BackendSelection,
+    D = BoxedDiscovery,
+    R: KeyRule + Drop = Rule<NoRule>,
+    C = BoxedCheck,
+> {
     balancing: &'b Balancing<S, D, R, C>,
     seen: KeptShown<S, D, R, C>,
     generator: SharedGenerator,
