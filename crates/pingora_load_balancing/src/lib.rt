@@ -32,5 +32,6 @@ pub use lb_select::refusal::Refusal;
 pub use lb_select::words::{CoreWords, HandedWords, LentWords, SharedWords, WordSource};
 pub use lb_threads_core::backends::{BackendView, Backends, BackendsParts};
 pub use lb_threads_core::gate::SelectorRebuildGate;
+pub use lb_threads_core::owner::ViewOwner;
 pub use lb_threads_core::registry::HealthRegistry;
 pub use lb_threads_group::group::SharedGroup;
