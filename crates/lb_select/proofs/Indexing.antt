@@ -1,12 +1,12 @@
 -- An index of points by buckets: how it is made from the lowest bucket on, and what a search knows by it.
 use Rattle.std.proofs.Common.{◌≡◌, ℕ, zero, suc, ◌+◌, ◌-◌, ◌/◌, ◌^◌, ◌<◌, ◌≤◌, inl, inr, List, [], ◌∷◌, ◌++◌, length, get_or, arith, subst}
-use Rattle.std.proofs.Common.{sym, length-append, ap, ◌∙◌}
+use Rattle.std.proofs.Common.{sym, length-append, ap}
 use Rattle.std.proofs.Math.Pow.{shr_mono}
-use Rattle.std.proofs.lemmas.List.{get_or_default, get_or_push, get_or_append_left}
+use Rattle.std.proofs.lemmas.List.{get_or_push, get_or_append_left}
 use Rattle.std.specs.List.{AllWithin}
-use Rattle.lb_select.specs.Buckets.{bucket_of, BeginsAt, IsIndexOf}
+use Rattle.lb_select.specs.Buckets.{bucket_of, BeginsAt, HasStarts, IsIndexOf}
 use Rattle.lb_select.specs.Sorted.{Rises, point_of, IsLeft}
-use Rattle.lb_select.proofs.Arranging.{never_falls}
+use Rattle.lb_select.proofs.Arranging.{never_falls, halved_none}
 use Rattle.lb_select.proofs.Lists.{below_at, less_tells}
 
 -- a lower bucket has lower places
@@ -18,9 +18,9 @@ lower_place shift p q h =
     ]
 
 -- where the buckets below one end, and what comes then isn't of them, it begins
-pub begins_there : (entries : List (ℕ × ℕ)) → Rises point_of entries → (shift bucket at : ℕ) → at ≤ length entries
+pub begins_there : {T : Type 0} (entries : List (ℕ × T)) → Rises point_of entries → (shift bucket at : ℕ) → at ≤ length entries
     → AllWithin (λ e. bucket_of shift e.0 < bucket) entries 0 at
-    → (at < length entries → (d : ℕ × ℕ) → bucket ≤ bucket_of shift (point_of (get_or entries at d))) → BeginsAt shift entries bucket at
+    → (at < length entries → (d : ℕ × T) → bucket ≤ bucket_of shift (point_of (get_or entries at d))) → BeginsAt shift entries bucket at
 begins_there entries r shift bucket at w below here = record {
   within = w;
   below = below;
@@ -32,83 +32,105 @@ begins_there entries r shift bucket at w below here = record {
       omega (arith, first, more);
 }
 
--- one entry more is below a bucket
-pub one_below : (entries : List (ℕ × ℕ)) (shift bucket at : ℕ) (e : ℕ × ℕ) → AllWithin (λ e. bucket_of shift e.0 < bucket) entries 0 at
-    → at < length entries → bucket_of shift (point_of (get_or entries at e)) < bucket
-    → AllWithin (λ e. bucket_of shift e.0 < bucket) entries 0 (at + 1)
-one_below entries shift bucket at e below inside h = λ k d low high.
-    elim (less_tells k at) [
-      | inl t ↦ below k d low t.1
-      | inr t ↦ (let same : k ≡ at = omega (arith, high, t.1) in
-          let P : ℕ → Type 0 = λ n. bucket_of shift (point_of (get_or entries n d)) < bucket in
-          let Q : (ℕ × ℕ) → Type 0 = λ z. bucket_of shift (point_of z) < bucket in
-          subst P (sym same) (subst Q (get_or_default entries at e d inside) h))
-    ]
+-- an element of a list that has one
+first_of : {X : Type 0} (xs : List X) (k : ℕ) → k < length xs → X
+first_of [] k h = absurd (omega (arith, h))
+first_of (x ∷ xs) k h = x
 
 -- the entry at an index has a point that is no less
-index_below : (entries : List (ℕ × ℕ)) → Rises point_of entries → (k : ℕ) → k < length entries → k ≤ point_of (get_or entries k (0, 0))
-index_below entries r zero h = omega arith
-index_below entries r (suc k) h =
-    let before : k ≤ point_of (get_or entries k (0, 0)) = index_below entries r k (omega (arith, h)) in
-    let rises : point_of (get_or entries k (0, 0)) < point_of (get_or entries (suc k) (0, 0)) = below_at point_of entries r k (suc k) (
-      0,
-      0,
-    ) (omega arith) h in
+index_below :
+    {T : Type 0} (entries : List (ℕ × T)) → Rises point_of entries → (k : ℕ) (d : ℕ × T) → k < length entries
+    → k ≤ point_of (get_or entries k d)
+index_below entries r zero d h = omega arith
+index_below entries r (suc k) d h =
+    let before : k ≤ point_of (get_or entries k d) = index_below entries r k d (omega (arith, h)) in
+    let rises : point_of (get_or entries k d) < point_of (get_or entries (suc k) d) = below_at point_of entries r k (suc k) d
+    (omega arith) h in
     omega (arith, before, rises)
 
 -- so what is counted before a bucket has 32 bits
-pub start_small : (entries : List (ℕ × ℕ)) → Rises point_of entries → (shift bucket at : ℕ) → BeginsAt shift entries bucket at
+pub start_small : {T : Type 0} (entries : List (ℕ × T)) → Rises point_of entries → (shift bucket at : ℕ) → BeginsAt shift entries bucket at
     → bucket ≤ (2 ^ 32 - 1) / 2 ^ shift → at < 2 ^ 32
 start_small entries r shift bucket zero b h = omega arith
-start_small entries r shift bucket (suc k) b h =
+start_small {T} entries r shift bucket (suc k) b h =
     let inside : k < length entries = omega (arith, b.within) in
-    let grown : k ≤ point_of (get_or entries k (0, 0)) = index_below entries r k inside in
-    let low : bucket_of shift (point_of (get_or entries k (0, 0))) < bucket = b.below k (0, 0) (omega arith) (omega arith) in
-    let lower : point_of (get_or entries k (0, 0)) < 2 ^ 32 - 1
-    = lower_place shift (point_of (get_or entries k (0, 0))) (2 ^ 32 - 1) (omega (arith, low, h)) in
+    let d : ℕ × T = first_of entries k inside in
+    let grown : k ≤ point_of (get_or entries k d) = index_below entries r k d inside in
+    let low : bucket_of shift (point_of (get_or entries k d)) < bucket = b.below k d (omega arith) (omega arith) in
+    let lower : point_of (get_or entries k d) < 2 ^ 32 - 1
+    = lower_place shift (point_of (get_or entries k d)) (2 ^ 32 - 1) (omega (arith, low, h)) in
     omega (arith, grown, lower)
 
 -- the starts of the first buckets
-pub record IsBegun (entries : List (ℕ × ℕ)) (shift bucket at : ℕ) (starts : List ℕ) : Type 0 where
+pub record IsBegun {T : Type 0} (entries : List (ℕ × T)) (shift bucket at : ℕ) (starts : List ℕ) : Type 0 where
   pub within : at ≤ length entries
   pub below : AllWithin (λ e. bucket_of shift e.0 < bucket) entries 0 at
   pub many : length starts ≡ bucket
   pub begins : (b : ℕ) → b < length starts → BeginsAt shift entries b (get_or starts b 0)
 
--- a search by the index: what is before its bucket is below its place, what is behind the bucket is not
-left_between : (entries : List (ℕ × ℕ)) (shift place first end : ℕ) → BeginsAt shift entries (bucket_of shift place) first → first ≤ end
-    → end ≤ length entries
-    → AllWithin (λ e. bucket_of shift place < bucket_of shift e.0) entries end (length entries) → IsLeft place entries first (end - first)
-left_between entries shift place first end b order within over = record {
-  within = omega (arith, order, within);
-  below = λ k d low high. lower_place shift (point_of (get_or entries k d)) place (b.below k d low high);
-  above = λ k d low high.
-      let l : place < point_of (get_or entries k d) = lower_place shift place (point_of (get_or entries k d))
-      (over k d (omega (arith, low, order)) high) in omega (arith, l);
-}
+-- what a search looks at by an index: from its bucket's beginning, or the list's, to the bucket's end, or the list's
+abbrev pub IsSearch : {T : Type 0} → ℕ → List (ℕ × T) → ℕ → ℕ → Type 0
+IsSearch place entries first end = (first ≤ end) × IsLeft place entries first (end - first)
 
-pub left_inner : (entries : List (ℕ × ℕ)) (shift place first end : ℕ) → BeginsAt shift entries (bucket_of shift place) first
-    → BeginsAt shift entries (bucket_of shift place + 1) end → IsLeft place entries first (end - first)
-left_inner entries shift place first end b n =
+-- what is before its bucket is below its place, what is behind the bucket is not
+left_between : {T : Type 0} (entries : List (ℕ × T)) (shift place first end : ℕ) → BeginsAt shift entries (bucket_of shift place) first
+    → first ≤ end → end ≤ length entries
+    → AllWithin (λ e. bucket_of shift place < bucket_of shift e.0) entries end (length entries) → IsSearch place entries first end
+left_between entries shift place first end b order within over = (
+  order,
+  record {
+    within = omega (arith, order, within);
+    below = λ k d low high. lower_place shift (point_of (get_or entries k d)) place (b.below k d low high);
+    above = λ k d low high.
+        let l : place < point_of (get_or entries k d) = lower_place shift place (point_of (get_or entries k d))
+        (over k d (omega (arith, low, order)) high) in omega (arith, l);
+  },
+)
+
+left_inner : {T : Type 0} (entries : List (ℕ × T)) (shift place first end : ℕ) → BeginsAt shift entries (bucket_of shift place) first
+    → BeginsAt shift entries (bucket_of shift place + 1) end → IsSearch place entries first end
+left_inner {T} entries shift place first end b n =
     let order : first ≤ end = elim (less_tells end first) [
-      | inl t ↦ (let low : bucket_of shift (point_of (get_or entries end (0, 0))) < bucket_of shift place =
-          b.below end (0, 0) (omega arith) t.1 in
-          let high : bucket_of shift place + 1 ≤ bucket_of shift (point_of (get_or entries end (0, 0)))
-          = n.above end (0, 0) (omega arith) (omega (arith, t.1, b.within)) in absurd (omega (arith, low, high)))
+      | inl t ↦ (let inside : end < length entries = omega (arith, t.1, b.within) in
+          let d : ℕ × T = first_of entries end inside in
+          let low : bucket_of shift (point_of (get_or entries end d)) < bucket_of shift place = b.below end d (omega arith) t.1 in
+          let high : bucket_of shift place + 1 ≤ bucket_of shift (point_of (get_or entries end d)) = n.above end d (omega arith) inside in
+          absurd (omega (arith, low, high)))
       | inr t ↦ t.1
     ] in
     left_between entries shift place first end b order n.within
     (λ k d low high. let h : bucket_of shift place + 1 ≤ bucket_of shift (point_of (get_or entries k d)) = n.above k d low high
     in omega (arith, h))
 
-pub left_last : (entries : List (ℕ × ℕ)) (shift place first end : ℕ) → BeginsAt shift entries (bucket_of shift place) first
-    → end ≡ length entries → IsLeft place entries first (end - first)
+left_last : {T : Type 0} (entries : List (ℕ × T)) (shift place first end : ℕ) → BeginsAt shift entries (bucket_of shift place) first
+    → end ≡ length entries → IsSearch place entries first end
 left_last entries shift place first end b e =
     left_between entries shift place first end b (omega (arith, e, b.within)) (omega (arith, e))
     (λ k d low high. absurd (omega (arith, e, low, high)))
 
+pub left_by : {T : Type 0} (entries : List (ℕ × T)) (shift place first end : ℕ) (starts : List ℕ) → HasStarts entries shift starts
+    → (bucket_of shift place < length starts → first ≡ get_or starts (bucket_of shift place) 0)
+    → (length starts ≤ bucket_of shift place → first ≡ 0)
+    → (bucket_of shift place + 1 < length starts → end ≡ get_or starts (bucket_of shift place + 1) 0)
+    → (length starts ≤ bucket_of shift place + 1 → end ≡ length entries) → IsSearch place entries first end
+left_by entries shift place first end starts h begins whole ends last =
+    let bucket : ℕ = bucket_of shift place in
+    elim (less_tells bucket (length starts)) [
+      | inl known ↦ (let here : BeginsAt shift entries bucket first = subst (BeginsAt shift entries bucket) (sym (begins known.1))
+          (h.begins bucket known.1) in
+          elim (less_tells (bucket + 1) (length starts)) [
+            | inl next ↦ left_inner entries shift place first end here
+                (subst (BeginsAt shift entries (bucket + 1)) (sym (ends next.1)) (h.begins (bucket + 1) next.1))
+            | inr none ↦ left_last entries shift place first end here (last none.1)
+          ])
+      | inr none ↦ (let start : first ≡ 0 = whole none.1 in
+          let end-is : end ≡ length entries = last (omega (arith, none.1)) in
+          let P : ℕ → Type 0 = λ z. IsSearch place entries z end in
+          subst P (sym start) (omega arith, halved_none entries place (end - 0) (omega (arith, end-is))))
+    ]
+
 -- the start of one bucket more
-pub begun_more : (entries : List (ℕ × ℕ)) (shift bucket at now : ℕ) (starts new : List ℕ) → IsBegun entries shift bucket at starts
+pub begun_more : {T : Type 0} (entries : List (ℕ × T)) (shift bucket at now : ℕ) (starts new : List ℕ) → IsBegun entries shift bucket at starts
     → BeginsAt shift entries bucket now → new ≡ starts ++ now ∷ [] → IsBegun entries shift (bucket + 1) now new
 begun_more entries shift bucket at now starts new h b e = record {
   within = b.within;
@@ -132,7 +154,7 @@ begun_more entries shift bucket at now starts new h b e = record {
 }
 
 -- before the first bucket nothing is known
-pub begun_none : (entries : List (ℕ × ℕ)) (shift : ℕ) (starts : List ℕ) → starts ≡ [] → IsBegun entries shift 0 0 starts
+pub begun_none : {T : Type 0} (entries : List (ℕ × T)) (shift : ℕ) (starts : List ℕ) → starts ≡ [] → IsBegun entries shift 0 0 starts
 begun_none entries shift starts e = record {
   within = omega arith;
   below = λ k d low high. absurd (omega (arith, high));
@@ -141,18 +163,10 @@ begun_none entries shift starts e = record {
 }
 
 -- when the last bucket has its start, each place has a bucket
-pub begun_all : (entries : List (ℕ × ℕ)) (shift bucket at : ℕ) (starts : List ℕ) → IsBegun entries shift bucket at starts → shift < 32
+pub begun_all : {T : Type 0} (entries : List (ℕ × T)) (shift bucket at : ℕ) (starts : List ℕ) → IsBegun entries shift bucket at starts → shift < 32
     → bucket ≡ (2 ^ 32 - 1) / 2 ^ shift + 1 → IsIndexOf entries shift starts
 begun_all entries shift bucket at starts h few all = record {
-  few = few;
+  known = record { few = few; begins = h.begins };
   all = λ place low. let l : bucket_of shift place ≤ (2 ^ 32 - 1) / 2 ^ shift = shr_mono shift (omega (arith, low))
       in omega (arith, l, all, h.many);
-  begins = h.begins;
 }
-
--- what is read from the index is where a bucket begins
-pub begins_read : (entries : List (ℕ × ℕ)) (shift : ℕ) (starts : List ℕ) → IsIndexOf entries shift starts → (q at : ℕ) → q < length starts
-    → at ≡ get_or starts q at → BeginsAt shift entries q at
-begins_read entries shift starts h q at in' e =
-    let P : ℕ → Type 0 = λ z. BeginsAt shift entries q z in
-    subst P (get_or_default starts q 0 at in' ∙ sym e) (h.begins q in')

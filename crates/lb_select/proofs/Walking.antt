@@ -1,20 +1,17 @@
 -- A walk over a built selector gives the candidates of its key, one point after another.
 use Rattle.std.proofs.Common.{◌≡◌, ℕ, zero, suc, ◌+◌, ◌-◌, ◌*◌, ◌/◌, ◌%◌, ◌^◌, ◌<◌, ◌≤◌, inl, inr, nat_lt, cond, List, [], ◌∷◌, length}
 use Rattle.std.proofs.Common.{get_or, sym, ap, subst, ◌∙◌, arith, add-zero, zero-add}
-use Rattle.std.specs.Prelude.{Some, None, Option, slice_get, option_and_then, MatchOption}
-use Rattle.std.specs.Borrow.{Bor}
-use Rattle.std.specs.Option.{option_copied}
-use Rattle.std.specs.Slice.{IsGetResult}
+use Rattle.std.specs.Prelude.{Some, Option, slice_get, option_and_then}
 use Rattle.std.specs.List.{Contains}
 use Rattle.std.proofs.lemmas.Nat.{mod-mul-add, div-add-mod'}
 use Rattle.std.proofs.Math.Nat.{add-mod_right, mod-eq_of_lt}
-use Rattle.std.proofs.lemmas.Option.{same_Some, get_or_from_slice_get}
+use Rattle.std.proofs.lemmas.Option.{same_Some, get_or_from_slice_get, slice_get-get_or}
 use Rattle.lb_select_base.specs.Backends.{Address, Member}
 use Rattle.lb_select.specs.Chains.{crc_chain}
 use Rattle.lb_select.specs.Choices.{HasPoint, IsRingCandidate}
 use Rattle.lb_select.specs.Circle.{IsPoint, IsPointOf}
 use Rattle.lb_select.specs.Crc.{crc}
-use Rattle.lb_select.specs.Placed.{Placed, IsPlaced, member_at, index_here, member_here, YieldsFrom, IsStart}
+use Rattle.lb_select.specs.Placed.{Placed, IsPlaced, member_at, index_here, member_here, YieldsFrom, IsStart, IsMove}
 use Rattle.lb_select.specs.Sorted.{turn_index, SplitsAt}
 use Rattle.lb_select.proofs.Lists.{nothing_in_none, less_tells}
 use Rattle.lb_select.proofs.Owners.{candidate_at}
@@ -90,8 +87,8 @@ next_turn n s t w some =
           next_round n s (t % n) w some e ∙ ap (λ z. turn_index s z n) (sym (mod_round t n some e)))
     ]
 
-first_turn : (n s : ℕ) → s ≤ n → 0 < n → here_of n s ≡ turn_index s (0 % n) n
-first_turn n s w some =
+first_turn : (n s : ℕ) → 0 < n → here_of n s ≡ turn_index s (0 % n) n
+first_turn n s some =
     let e : 0 % n ≡ 0 = mod-eq_of_lt some in
     elim (less_tells s n) [
       | inl inside ↦ (let i : s < n = inside.1 in let z : 0 < n - s = omega arith in let f : s ≡ s + 0 = omega arith
@@ -152,7 +149,7 @@ module _ (r : Placed) (place : IsPlaced r.members r.owners r.points) (key : List
       let inside : index_here r s < length r.points = get_inside r.points (index_here r s) parts.0 parts.1 in
       let some : 0 < length r.points = omega arith in
       let Q : ℕ → Type 0 = λ z. IsRingCandidate r.members key z c in
-      subst Q (zero-add i) (candidates_from (d ∷ cs) s 0 (first_turn (length r.points) s within some) y i c h)
+      subst Q (zero-add i) (candidates_from (d ∷ cs) s 0 (first_turn (length r.points) s some) y i c h)
 
   no_point : r.points ≡ [] → (p : ℕ) → IsPoint (HasPoint crc_chain r.members) p → ⊥
   no_point e p x =
@@ -167,21 +164,40 @@ module _ (r : Placed) (place : IsPlaced r.members r.owners r.points) (key : List
     end = λ h. no_point (w.end h);
   }
 
--- what a read of a list lends
-got : (xs : List ℕ) (i : ℕ) (o : Option (Bor ℕ)) → IsGetResult xs i i o → (b : ℕ) → slice_get xs i ≡ Some b → option_copied o ≡ Some b
-got xs i None h b e = let l : i < length xs = get_inside xs i b e in let m : length xs ≤ i = h.3 in absurd (omega arith)
-got xs i (Some x) h b e = ap Some (h.1 ∙ get_or_from_slice_get xs i b x.now e)
+-- the backend of an entry
+owned : (r : Placed) → IsPlaced r.members r.owners r.points → (i : ℕ) (e : ℕ × ℕ) → slice_get r.points i ≡ Some e → (m : Member)
+    × (member_at r.members r.owners e.1 ≡ Some m) × ((b : ℕ) × (slice_get r.owners e.1 ≡ Some b) × (slice_get r.members b ≡ Some m))
+owned r place i e read =
+    let y = place.yields e (contains_at r.points i e read) in
+    (y.0, y.1, and_then_parts (slice_get r.members) (slice_get r.owners e.1) y.0 y.1)
 
--- the owner of a point has a backend
-pub owner_here : (r : Placed) → IsPlaced r.members r.owners r.points → (at index : ℕ) → index ≡ index_here r at → (e : ℕ × ℕ)
-    → slice_get r.points index ≡ Some e
-    → (o : Option (Bor ℕ)) → IsGetResult r.owners e.1 e.1 o → (given : Option ℕ) → given ≡ option_copied o
-    → MatchOption given (r.points ≡ []) (λ i. (m : Member) × (slice_get r.members i ≡ Some m) × (member_here r at ≡ Some m))
-owner_here r place at index i e h o g given c =
-    let y = place.yields e (contains_at r.points index e h) in
-    let parts = and_then_parts (slice_get r.members) (slice_get r.owners e.1) y.0 y.1 in
+read_at : {X : Type 0} (xs : List X) (i : ℕ) (x : X) → i < length xs → x ≡ get_or xs i x → slice_get xs i ≡ Some x
+read_at xs i x inside same = slice_get-get_or xs i x inside ∙ ap Some (sym same)
+
+-- the number of an entry's owner is one
+pub owner_inside : (r : Placed) → IsPlaced r.members r.owners r.points → (i : ℕ) (e : ℕ × ℕ) → i < length r.points → e ≡ get_or r.points i e
+    → e.1 < length r.owners
+owner_inside r place i e inside same =
+    let o = owned r place i e (read_at r.points i e inside same) in get_inside r.owners e.1 o.2.0 o.2.1
+
+-- one step: the backend at the next point is yielded, and the walk is past that point
+pub stepped : (r : Placed) → IsPlaced r.members r.owners r.points → (at i : ℕ) (e : ℕ × ℕ) (b : ℕ) → i < length r.points
+    → i ≡ turn_index at (0 % length r.points) (length r.points) → e ≡ get_or r.points i e → b ≡ get_or r.owners e.1 b
+    → IsMove r at (slice_get r.members b) (i + 1)
+stepped r place at i e b inside turned same owner =
+    let some : 0 < length r.points = omega (arith, inside) in
+    let here : i ≡ index_here r at = turned ∙ sym (first_turn (length r.points) at some) in
+    let read : slice_get r.points i ≡ Some e = read_at r.points i e inside same in
+    let o = owned r place i e read in
+    let one : b ≡ o.2.0 = owner ∙ get_or_from_slice_get r.owners e.1 o.2.0 b o.2.1 in
+    let given : slice_get r.members b ≡ Some o.0 = ap (slice_get r.members) one ∙ o.2.2 in
     let f : ℕ × ℕ → Option Member = λ p. member_at r.members r.owners p.1 in
-    let P : Option ℕ → Type 0 = λ z. MatchOption z (r.points ≡ []) (λ i. (m : Member) × (slice_get r.members i ≡ Some m)
-    × (member_here r at ≡ Some m)) in
-    subst P (sym (c ∙ got r.owners e.1 o g parts.0 parts.1))
-    (y.0, parts.2, ap (λ k. option_and_then f (slice_get r.points k)) (sym i) ∙ ap (option_and_then f) h ∙ y.1)
+    let yields : member_here r at ≡ Some o.0 = ap (λ k. option_and_then f (slice_get r.points k)) (sym here)
+    ∙ ap (option_and_then f) read ∙ o.1 in
+    let P : Option Member → Type 0 = λ z. IsMove r at z (i + 1) in
+    subst P (sym given)
+    (λ es cs ended w. record {
+      undrawn = w.undrawn;
+      candidates = (yields, (let Q : ℕ → Type 0 = λ k. YieldsFrom r (k + 1) cs in subst Q here w.candidates));
+      end = w.end;
+    })

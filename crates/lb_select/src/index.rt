@@ -1,11 +1,10 @@
 //! An index of points in order: where the points of each bucket of places begin. A search reads it at its place's bucket and looks
 //! among the few points there, so that it touches three or four lines of memory however many points there are.
-ghost use Rattle.std.specs.Prelude.{◌≡◌, ◌+◌, ◌^◌, ◌<◌, ◌≤◌, length, IfOk};
+ghost use Rattle.std.specs.Prelude.{◌≡◌, ◌+◌, ◌^◌, ◌<◌, ◌≤◌, length, get_or, IfOk};
 ghost use Rattle.std.specs.List.{AllWithin};
-ghost use Rattle.lb_select.specs.Buckets.{bucket_of, BeginsAt, IsIndexOf};
-ghost use Rattle.lb_select.specs.Sorted.{Rises, point_of, HasSmallPoints, IsInOrder, SplitsAt};
+ghost use Rattle.lb_select.specs.Buckets.{bucket_of, BeginsAt, HasStarts, IsIndexOf};
+ghost use Rattle.lb_select.specs.Sorted.{Rises, point_of, HasSmallPoints, IsInOrder, IsLeft, SplitsAt};
 
-use crate::points::first_of_few;
 use std::alloc::{AllocError, Global};
 
 // A bucket has no more places than two to this power.
@@ -18,7 +17,7 @@ const LEAST_SHIFT: u32 = 4;
 // point.
 const MOST_IN_BUCKET: usize = 16;
 
-/// Where the points of each bucket begin. The bucket of a place is its upper bits.
+/// Where the points of each bucket begin, or nothing. The bucket of a place is its upper bits.
 #[derive(Drop)]
 pub(crate) struct Index {
     starts: Vec<u32>,
@@ -37,7 +36,7 @@ pub(crate) fn shift_of(count: usize, in_bucket: usize, least: u32) -> u32
 }
 
 // How many entries are in the buckets below one, where the first ones are known to be.
-fn start_from(entries: &[(u32, u32)], at: usize, shift: u32, bucket: usize) -> usize
+fn start_from<T>(entries: &[(u32, T)], at: usize, shift: u32, bucket: usize) -> usize
     requires order { IsInOrder entries.now }
     requires shifts { shift < 32 }
     requires within { at ≤ length entries.now }
@@ -51,9 +50,37 @@ fn start_from(entries: &[(u32, u32)], at: usize, shift: u32, bucket: usize) -> u
     at
 }
 
+// The half where its last point is below the place, else 0. The difference borrows where it is, and the borrow is the mask: a branch would
+// be predicted wrongly at every second point.
+fn half_below(half: usize, point: u32, place: u32) -> usize
+    ensures below { point < place → result ≡ half }
+    ensures above { place ≤ point → result ≡ 0 }
+{
+    let borrow = u128::from(point).wrapping_sub(u128::from(place)) >> 64;
+    half & borrow as usize
+}
+
+// How many points are below a place, found by halves of those that are left.
+fn first_of_few<T>(entries: &[(u32, T)], place: u32, first: usize, size: usize) -> usize
+    requires rises { Rises point_of entries.now }
+    requires left { IsLeft place entries.now first size }
+    ensures within { result ≤ length entries.now }
+    ensures splits { SplitsAt place entries.now result }
+{
+    let mut first = first;
+    let mut size = size;
+    while size > 0 {
+        let half = size - size / 2;
+        let point = entries[first + half - 1].0;
+        first += half_below(half, point, place);
+        size -= half;
+    }
+    first
+}
+
 impl Index {
     /// Returns the index of points in order.
-    pub(crate) fn of(alloc: Global, entries: &[(u32, u32)]) -> Result<Index, AllocError>
+    pub(crate) fn of<T>(alloc: Global, entries: &[(u32, T)]) -> Result<Index, AllocError>
         requires { IsInOrder entries.now }
         ensures { IfOk result (λ r. IsIndexOf entries.now r.shift r.starts.items) }
     {
@@ -68,19 +95,49 @@ impl Index {
         Ok(Index { starts, shift })
     }
 
+    /// Returns the index, or, where memory for it is refused, one that knows of no bucket: by that a search looks among all points.
+    pub(crate) fn of_or_none<T>(alloc: Global, entries: &[(u32, T)]) -> Index
+        requires { IsInOrder entries.now }
+        ensures { HasStarts entries.now result.shift result.starts.items }
+    {
+        match Index::of(alloc, entries) {
+            Ok(index) => index,
+            Err(_) => Index {
+                starts: Vec::new(alloc),
+                shift: MOST_SHIFT,
+            },
+        }
+    }
+
+    // Where the points of a bucket begin and end; where one isn't known, where the list of this length does.
+    #[inline(always)]
+    fn bounds(&self, bucket: u32, len: usize) -> (usize, usize)
+        ensures known { bucket < length self.now.starts.items → result.0 ≡ get_or self.now.starts.items bucket 0 }
+        ensures unknown { length self.now.starts.items ≤ bucket → result.0 ≡ 0 }
+        ensures ends { bucket + 1 < length self.now.starts.items → result.1 ≡ get_or self.now.starts.items (bucket + 1) 0 }
+        ensures endless { length self.now.starts.items ≤ bucket + 1 → result.1 ≡ len }
+    {
+        let bucket = bucket as usize;
+        if bucket + 1 < self.starts.len() {
+            return (
+                self.starts[bucket] as usize,
+                self.starts[bucket + 1] as usize,
+            );
+        }
+        match self.starts.get(bucket) {
+            Some(first) => (*first as usize, len),
+            None => (0, len),
+        }
+    }
+
     /// Returns how many points are below a place.
-    pub(crate) fn first_from(&self, entries: &[(u32, u32)], place: u32) -> usize
+    pub(crate) fn first_from<T>(&self, entries: &[(u32, T)], place: u32) -> usize
         requires order { IsInOrder entries.now }
-        requires index { IsIndexOf entries.now self.now.shift self.now.starts.items }
+        requires starts { HasStarts entries.now self.now.shift self.now.starts.items }
         ensures within { result ≤ length entries.now }
         ensures splits { SplitsAt place entries.now result }
     {
-        let bucket = (place >> self.shift) as usize;
-        let first = self.starts[bucket] as usize;
-        let end = match self.starts.get(bucket + 1) {
-            Some(next) => *next as usize,
-            None => entries.len(),
-        };
+        let (first, end) = self.bounds(place >> self.shift, entries.len());
         first_of_few(entries, place, first, end - first)
     }
 }

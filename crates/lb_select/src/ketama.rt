@@ -1,18 +1,18 @@
 //! The selector of consistent hashing: the points of all backends on one ring, and walks over their owners.
-//! It keeps points in order, with numbers in the place of addresses.
-ghost use Rattle.std.specs.Prelude.{◌≡◌, ◌+◌, ◌^◌, ◌<◌, length, [], MatchOption, option_and_then, slice_get, false, Some, None, ⊤};
+//! Its points are those of a `Ring`, with numbers in the place of addresses.
+ghost use Rattle.std.specs.Prelude.{◌≡◌, ◌+◌, ◌<◌, option_and_then, slice_get, false, Some, None, ⊤};
 ghost use Rattle.std.specs.Option.{option_copied};
-ghost use Rattle.lb_select_base.specs.Backends.{Member};
 ghost use Rattle.lb_select_base.specs.Refusals.{Refuses};
 ghost use Rattle.lb_select.specs.Choices.{IsRingWalk, ring_refusal};
 ghost use Rattle.lb_select.specs.Crc.{crc};
-ghost use Rattle.lb_select.specs.Placed.{IsMove, IsStart, IsWalkFrom, index_here, member_here};
+ghost use Rattle.lb_select.specs.Placed.{IsMove, IsStart, IsWalkFrom};
 ghost use Rattle.lb_select.specs.RingLaws.{walk_starts, walk_ends, walk_undrawn, walk_few_words};
 ghost use Rattle.lb_select.specs.Sorted.{SplitsAt};
 
 use crate::crc::crc32;
 use crate::fill::{Marks, POINTS_PER_WEIGHT, marks_of, members_of, weight_on_ring};
 use crate::index::Index;
+use crate::points::Points;
 use crate::spread::points_of;
 use lb_select_base::backend::Backend;
 use lb_select_base::iter::Iter;
@@ -30,8 +30,7 @@ use std::marker::Model;
 pub struct KetamaHashing {
     backends: Vec<Backend>,
     owners: Vec<usize>,
-    points: Vec<(u32, u32)>,
-    index: Index,
+    points: Points<u32>,
     config: KetamaConfig,
 }
 
@@ -79,13 +78,12 @@ impl KetamaHashing {
         let weight = weight_on_ring(backends).ok_or(Refusal::TooManyPoints)?;
         let backends = members_of(alloc, backends)?;
         let Marks { owners, chains } = marks_of(alloc, &backends)?;
-        let points = points_of(alloc, &chains, POINTS_PER_WEIGHT * weight)?;
-        let index = Index::of(alloc, &points)?;
+        let entries = points_of(alloc, &chains, POINTS_PER_WEIGHT * weight)?;
+        let index = Index::of(alloc, &entries)?;
         Ok(KetamaHashing {
             backends,
             owners,
-            points,
-            index,
+            points: Points { entries, index },
             config,
         })
     }
@@ -95,25 +93,7 @@ impl KetamaHashing {
         ensures below { SplitsAt (crc key.now) self.now.points result }
         ensures start { IsStart self.now key.now result }
     {
-        self.index.first_from(&self.points, crc32(key))
-    }
-
-    // The index itself, or 0 where it is past the last point.
-    fn index_of(&self, at: usize) -> usize
-        ensures value { result ≡ index_here self.now at }
-        ensures room { result + 1 < 2 ^ 64 }
-    {
-        if at < self.points.len() { at } else { 0 }
-    }
-
-    // The index of the backend that a walk yields at a point; none where there is no point.
-    fn owner_at(&self, at: usize) -> Option<usize>
-        ensures { MatchOption result (self.now.points ≡ [])
-            (λ i. (m : Member) × (slice_get self.now.members i ≡ Some m) × (member_here self.now at ≡ Some m)) }
-    {
-        let at = self.index_of(at);
-        let (_, owner) = *self.points.get(at)?;
-        self.owners.get(owner as usize).copied()
+        self.points.first_from(crc32(key))
     }
 
     // The backend of an index, if there is one.
@@ -127,9 +107,10 @@ impl KetamaHashing {
     fn advance(&self, walk: &mut RingWalk) -> Option<usize>
         ensures { IsMove self.now walk.old.at (option_and_then (slice_get self.now.members) result) walk.new.at }
     {
-        let index = self.owner_at(walk.at)?;
-        walk.at = self.index_of(walk.at) + 1;
-        Some(index)
+        let at = self.points.turned(walk.at, 0)?;
+        walk.at = at + 1;
+        let owner = self.points.entries[at].1;
+        Some(self.owners[owner as usize])
     }
 }
 
