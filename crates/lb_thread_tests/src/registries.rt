@@ -142,7 +142,9 @@ struct Notes {
 impl HealthObserve for Notes {
     fn observe(&self, target: &Backend, healthy: bool) {
         let told = &self.words.told;
-        let digits = last_byte(target) * 10 + u64::from(healthy);
+        let digits = last_byte(target)
+            .wrapping_mul(10)
+            .wrapping_add(u64::from(healthy));
         told.store(
             told.load(SeqCst).wrapping_mul(100).wrapping_add(digits),
             SeqCst,

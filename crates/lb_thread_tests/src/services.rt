@@ -3,8 +3,8 @@ use crate::ends::{Ends, send_end};
 use crate::service_fixtures::{Checked, ServiceBench, Ticks, counted, one_backend, registry_of};
 use log::sink::Locked;
 use log::{Level, Log, Logged};
-use pingora_load_balancing::Refusal;
-use pingora_load_balancing::background::{ReadyWatch, ShutdownSignal};
+use pingora_load_balancing::background::{ReadyWatch, RuntimeClock, ShutdownSignal};
+use pingora_load_balancing::{MomentSource, Refusal};
 use std::alloc::Global;
 use std::collections::BTreeSet;
 use std::process::Abort;
@@ -42,7 +42,7 @@ enum Signal {
 type Told = (bool, u64, bool, bool);
 
 // A case: whether the registry has no target at first, whether it has a check, and whether each check waits until services are to end; the
-// service's frequency, and whether its checks run in parallel; by how much its clock goes on at each reading.
+// service's frequency, and whether its checks run in parallel; by how much its clock goes on at each reading, or that it is the machine's.
 struct Row {
     name: &'static str,
     is_empty: bool,
@@ -55,6 +55,9 @@ struct Row {
     beside: Beside,
     wanted: Told,
 }
+
+// In place of a step: the machine's own clock.
+const OF_THE_MACHINE: u128 = 0;
 
 const ROWS: [Row; 10] = [
     // Without a frequency the one target is checked once, the service is ready, and it is done.
@@ -135,7 +138,7 @@ const ROWS: [Row; 10] = [
         beside: Beside::PublishesAndEnds,
         wanted: (true, 1, true, false),
     },
-    // A second view of its target is no reason to check it again; once all views have left, a new one of it is.
+    // A second view of its target is no reason for it to check that again; once all views have left, a new one of the target is.
     Row {
         name: "a new view wakes an hourly one",
         is_empty: true,
@@ -143,7 +146,7 @@ const ROWS: [Row; 10] = [
         waits: false,
         frequency: Some(3_600_000_000_000),
         is_parallel: false,
-        step: 50_000_000,
+        step: OF_THE_MACHINE,
         signal: Signal::Stays,
         beside: Beside::ComesBackAndEnds,
         wanted: (true, 2, true, false),
@@ -295,6 +298,27 @@ fn begin<R: Abort + Wait + Clock + Copy + Send + Sync + Drop>(
     }
 }
 
+// The clock of a row.
+#[derive(Drop)]
+struct RowClock<R: Clock> {
+    ticks: Ticks,
+    of_the_machine: RuntimeClock<R>,
+}
+
+impl<R: Clock> MomentSource for RowClock<R> {
+    ghost use Rattle.std.specs.Prelude.{⊤};
+
+    ghost reads = { λ s m t. ⊤ };
+
+    fn now(&mut self) -> u128 {
+        if self.ticks.step == OF_THE_MACHINE {
+            self.of_the_machine.now()
+        } else {
+            self.ticks.now()
+        }
+    }
+}
+
 // Runs the service, and what happens meanwhile.
 fn runs<R: Abort + Log + Threads + Wait + Clock + Copy + Send + Sync + Drop>(
     rt: &R,
@@ -302,9 +326,12 @@ fn runs<R: Abort + Log + Threads + Wait + Clock + Copy + Send + Sync + Drop>(
     bench: &mut ServiceBench<R>,
     row: &Row,
 ) -> Told {
-    let mut clock = Ticks {
-        next: 0,
-        step: row.step,
+    let mut clock = RowClock {
+        ticks: Ticks {
+            next: 0,
+            step: row.step,
+        },
+        of_the_machine: RuntimeClock::new(*rt),
     };
     let (beside, notifier) = (row.beside, bench.ends.notifier.take());
     let (service, registry, checks) = (&bench.service, &*bench.registry, &*bench.checks);

@@ -72,8 +72,8 @@ fn leaves<R: Abort + Wait + Clock + Copy + Drop>(
     balancer.leave(rt);
 }
 
-// What leaves has no targets any more, and what else is in the registry stays; a balancer leaves when it is dropped, also while the registry
-// is out of its lock.
+// What leaves has no targets any more, and what else is in the registry stays; a balancer leaves when it is dropped, also while the
+// registry is out of its lock.
 #[test]
 fn views_leave(rt: HostRuntime) {
     let alloc = rt.alloc();
