@@ -306,7 +306,21 @@ pub(crate) fn built_of<S: BackendSelection>(
         None => S::build(alloc, members)?,
     };
     let selector = Arc::new(alloc, selector)?;
-    let words = Arc::new(alloc, SharedWords::new(Pcg64::new(u128::from(seed), 1)))?;
+    with_words(alloc, selector, Pcg64::new(u128::from(seed), 1))
+}
+
+/// Returns this selector with words of its own, the random ones of which are the generator's.
+///
+/// Refused for memory alone.
+pub(crate) fn with_words<S: BackendSelection>(
+    alloc: Global,
+    selector: Arc<S>,
+    generator: Pcg64,
+) -> Result<BuiltSelector<S>, Refusal>
+    ensures made { IfOk result (λ b. b.selector ≡ selector) }
+    ensures refused { IfErr result (λ e. e ≡ Refusal.OutOfMemory) }
+{
+    let words = Arc::new(alloc, SharedWords::new(generator))?;
     Ok(BuiltSelector {
         selector,
         words,
