@@ -182,7 +182,11 @@ impl HealthCheck for DownAtFirst {
 type AnyView = BackendView<BoxedDiscovery, Rule<Numbered<AnyRule>>, BoxedCheck>;
 
 // Whether each of its three backends is ready.
-fn are_ready<W: Abort + Wait>(rt: &W, alloc: Global, view: &AnyView) -> [bool; 3] {
+fn are_ready<W: Abort + Wait, D: ServiceDiscovery + Drop, R: KeyRule + Drop>(
+    rt: &W,
+    alloc: Global,
+    view: &BackendView<D, R, BoxedCheck>,
+) -> [bool; 3] {
     let mut ready = [false; 3];
     for (place, address) in ["1.0.0.1:80", "2.0.0.1:80", "1.0.0.2:80"]
         .into_iter()
@@ -197,21 +201,21 @@ fn are_ready<W: Abort + Wait>(rt: &W, alloc: Global, view: &AnyView) -> [bool; 3
 }
 
 // Runs a pass with its checks on threads of their own; which backends are ready after it.
-fn checked<W: Abort + Log + Threads + Wait + Sync>(
-    rt: &W,
-    alloc: Global,
-    view: &AnyView,
-) -> [bool; 3] {
+fn checked<
+    W: Abort + Log + Threads + Wait + Sync,
+    D: ServiceDiscovery + Drop,
+    R: KeyRule + Drop + Send,
+>(rt: &W, alloc: Global, view: &BackendView<D, R, BoxedCheck>) -> [bool; 3] {
     view.run_health_check(rt, alloc, true).expect(rt, "refused");
     are_ready(rt, alloc, view)
 }
 
 // Updates the view and runs two passes; how many members it has, and which backends are ready before the first pass and after each.
-fn passes<W: Abort + Log + Threads + Wait + Sync>(
-    rt: &W,
-    alloc: Global,
-    view: &AnyView,
-) -> (Option<usize>, [[bool; 3]; 3]) {
+fn passes<
+    W: Abort + Log + Threads + Wait + Sync,
+    D: ServiceDiscovery + Drop,
+    R: KeyRule + Drop + Send,
+>(rt: &W, alloc: Global, view: &BackendView<D, R, BoxedCheck>) -> (Option<usize>, [[bool; 3]; 3]) {
     let members = view.update(rt, alloc, |set| set.len());
     let before = are_ready(rt, alloc, view);
     let first = checked(rt, alloc, view);
