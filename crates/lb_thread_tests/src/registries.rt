@@ -6,8 +6,7 @@ use pingora_load_balancing::discovery::{
     BoxedDiscovery, Discovered, DiscoverySource, ServiceDiscovery, Settings,
 };
 use pingora_load_balancing::health_check::{
-    BoxedCheck, CheckError, Equivalence, HealthCheck, HealthObserve, HealthObserveCallback,
-    KeyRule, Numbered, Rule,
+    BoxedCheck, CheckError, Equivalence, HealthCheck, HealthObserve, KeyRule, Numbered, Rule,
 };
 use pingora_load_balancing::{
     Backend, BackendView, Backends, HealthRegistry, InetAddr, Refusal, SocketAddr,
@@ -156,7 +155,7 @@ impl HealthObserve for Notes {
 #[derive(Drop)]
 struct DownAtFirst {
     words: Arc<Words>,
-    observer: HealthObserveCallback,
+    observer: Notes,
 }
 
 impl HealthCheck for DownAtFirst {
@@ -171,7 +170,7 @@ impl HealthCheck for DownAtFirst {
     }
 
     fn health_status_change(&self, target: &Backend, healthy: bool) {
-        (*self.observer).observe(target, healthy);
+        self.observer.observe(target, healthy);
     }
 
     fn health_threshold(&self, _success: bool) -> usize {
@@ -179,11 +178,15 @@ impl HealthCheck for DownAtFirst {
     }
 }
 
-// A view in whose registry and in whose discovery all is boxed.
+// A view whose registry has a boxed rule and a boxed check, and whose discovery is boxed.
 type AnyView = BackendView<BoxedDiscovery, Rule<Numbered<AnyRule>>, BoxedCheck>;
 
 // Whether each of its three backends is ready.
-fn are_ready<W: Abort + Wait>(rt: &W, alloc: Global, view: &AnyView) -> [bool; 3] {
+fn are_ready<W: Abort + Wait, D: ServiceDiscovery + Drop, R: KeyRule + Drop>(
+    rt: &W,
+    alloc: Global,
+    view: &BackendView<D, R, BoxedCheck>,
+) -> [bool; 3] {
     let mut ready = [false; 3];
     for (place, address) in ["1.0.0.1:80", "2.0.0.1:80", "1.0.0.2:80"]
         .into_iter()
@@ -197,24 +200,32 @@ fn are_ready<W: Abort + Wait>(rt: &W, alloc: Global, view: &AnyView) -> [bool; 3
     ready
 }
 
-// Updates the view and runs two passes, each with its checks on threads of their own; how many members it has, and which backends are ready
-// before the first pass and after each.
-fn passes<W: Abort + Log + Threads + Wait + Sync>(
-    rt: &W,
-    alloc: Global,
-    view: &AnyView,
-) -> (Option<usize>, [[bool; 3]; 3]) {
-    let members = view.update(rt, alloc, |set| set.len());
-    let mut ready = [are_ready(rt, alloc, view); 3];
-    for pass in 1..3 {
-        view.run_health_check(rt, alloc, true).expect(rt, "refused");
-        ready[pass] = are_ready(rt, alloc, view);
-    }
-    (members.expect(rt, "refused"), ready)
+// Runs a pass with its checks on threads of their own; which backends are ready after it.
+fn checked<
+    W: Abort + Log + Threads + Wait + Sync,
+    D: ServiceDiscovery + Drop,
+    R: KeyRule + Drop + Send,
+>(rt: &W, alloc: Global, view: &BackendView<D, R, BoxedCheck>) -> [bool; 3] {
+    view.run_health_check(rt, alloc, true).expect(rt, "refused");
+    are_ready(rt, alloc, view)
 }
 
-// By a boxed rule two of three backends share a cell. A boxed check is asked once for each cell and pass, a boxed observer is told of each
-// flip, and what a boxed discovery disables isn't ready.
+// Updates the view and runs two passes; how many members it has, and which backends are ready before the first pass and after each.
+fn passes<
+    W: Abort + Log + Threads + Wait + Sync,
+    D: ServiceDiscovery + Drop,
+    R: KeyRule + Drop + Send,
+>(rt: &W, alloc: Global, view: &BackendView<D, R, BoxedCheck>) -> (Option<usize>, [[bool; 3]; 3]) {
+    let members = view.update(rt, alloc, |set| set.len());
+    let before = are_ready(rt, alloc, view);
+    let first = checked(rt, alloc, view);
+    let second = checked(rt, alloc, view);
+    (members.expect(rt, "refused"), [before, first, second])
+}
+
+// By a boxed rule two of three backends share a cell. A boxed check is asked once for each cell and pass, its observer is told of each flip,
+// and what a boxed discovery disables isn't ready. (No box may contain a box that contains a trait's object; `lb_tests` calls a boxed
+// observer.)
 #[test]
 fn what_is_boxed_is_used(rt: HostRuntime) {
     let alloc = rt.alloc();
@@ -232,7 +243,7 @@ fn what_is_boxed_is_used(rt: HostRuntime) {
     };
     let check = DownAtFirst {
         words: Arc::try_clone(&words).expect(&rt, "refused"),
-        observer: Box::new(alloc, notes).expect(&rt, "refused"),
+        observer: notes,
     };
     let check: BoxedCheck = Box::new(alloc, check).expect(&rt, "refused");
     registry.set_health_check(&rt, check).expect(&rt, "refused");

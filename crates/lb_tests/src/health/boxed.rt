@@ -3,7 +3,7 @@ use crate::asserted::assert_same;
 use crate::health::passes::{is_ready, update_by};
 use crate::selection::fixtures::set_of;
 use lb_health_core::health_check::{
-    BoxedCheck, HealthObserve, HealthObserveCallback, IdentitySummary,
+    BoxedCheck, HealthCheck, HealthObserve, HealthObserveCallback, IdentitySummary,
 };
 use lb_health_core::registry::RegistryCore;
 use lb_health_http::TcpHealthCheck;
@@ -36,7 +36,7 @@ impl HealthObserve for Adds {
 fn checked(
     alloc: Global,
     source: &DiscoverySource<BoxedDiscovery>,
-    check: &BoxedCheck,
+    check: &impl HealthCheck,
     log: &impl Log,
 ) -> Result<[bool; 2], Refusal> {
     let mut registry = RegistryCore::new(alloc);
@@ -57,7 +57,6 @@ fn boxes_are_called(rt: HostRuntime) -> Result<(), Fail> {
     };
     let observer: HealthObserveCallback = Box::new(alloc, adds)?;
     let check = TcpHealthCheck::new(rt).with_callbacks(Some(observer), IdentitySummary);
-    let check: BoxedCheck = Box::new(alloc, check)?;
     let found = Static::new(set_of(alloc, &[("127.0.0.1:1", 7)])?);
     let found: BoxedDiscovery = Box::new(alloc, found)?;
     let source = DiscoverySource::Boxed(found);
