@@ -118,7 +118,7 @@ fn run_beside<R, C>(
     watch: &ShutdownWatch,
 ) -> Result<(), anyhow::Error>
 where
-    R: Log + Net + Threads + Wait + Clock + Print + AllocGlobal + Sync,
+    R: Log + Net + Threads + Wait + Clock + Print + AllocGlobal + Copy + Sync,
     C: HealthCheck + Drop + Send + Sync,
 {
     let ((), used) = thread::join(
