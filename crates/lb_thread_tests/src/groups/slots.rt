@@ -1,5 +1,5 @@
-//! A group of two slots of two kinds, whose turns the test takes: what each slot selects, by loads that another thread sets, by the flags
-//! of its discovery and of its caller, and by a pass of checks; and that it leaves while its registry is held.
+//! A group of two slots of two kinds, whose turns the test takes: what each slot selects, by loads, by the flags of its discovery and of
+//! its caller, and by a pass of checks; and that it leaves while its registry is held.
 use super::turns::turn;
 use crate::balancer::fixtures::{
     DISABLES, ENABLES, InTurn, Line, ROWS, SecondDown, TestedRegistry, in_turn, note, second_down,
@@ -14,7 +14,7 @@ use std::alloc::Global;
 use std::process::Abort;
 use std::sync::atomic::Ordering::SeqCst;
 use std::sync::{Arc, Wait};
-use std::thread::{Threads, join};
+use std::thread::Threads;
 use std::time::Clock;
 
 // A group whose first slot goes by loads, and whose second one is a ring.
@@ -78,30 +78,24 @@ impl<R: Abort + Wait + Clock + Copy + Drop> Bench<R> {
     }
 }
 
-// Another thread sets the load of the backend at this address while this one selects; what each slot selects then.
-fn load<R: Abort + Threads + Wait + Clock + Copy + Send + Sync + Drop>(
+// Sets the load of the backend at this address; what each slot selects then.
+fn load<R: Abort + Wait + Clock + Copy + Drop>(
     rt: &R,
     bench: &Bench<R>,
     address: &str,
     load: u64,
     text: &mut String,
 ) {
-    let (alloc, group, backend) = (bench.alloc, &bench.group, bench.at(rt, address));
-    let (set, _) = join(
-        rt,
-        || group.set_load(rt, alloc, &backend, load),
-        || group.select(rt, alloc, 0, b"k", 9),
-    );
-    set.expect(rt, "refused");
+    let backend = bench.at(rt, address);
+    bench
+        .group
+        .set_load(rt, bench.alloc, &backend, load)
+        .expect(rt, "refused");
     bench.note(rt, text);
 }
 
 // Loads before the first rebuild, after it, and after rebuilds to a membership without their backends and back.
-fn loads<R: Abort + Threads + Wait + Clock + Copy + Send + Sync + Drop>(
-    rt: &R,
-    bench: &Bench<R>,
-    text: &mut String,
-) {
+fn loads<R: Abort + Wait + Clock + Copy + Drop>(rt: &R, bench: &Bench<R>, text: &mut String) {
     load(rt, bench, "1.0.0.1:80", 7, text);
     bench.update(rt, ROWS, text);
     load(rt, bench, "1.0.0.2:80", 9, text);
@@ -150,8 +144,8 @@ fn leaves<R: Abort + Wait + Clock + Copy + Drop>(
     write!(text, "{before} {after}").expect(rt, "refused");
 }
 
-// Each slot goes by its own kind: by loads, which outlive rebuilds to a membership without their backends and may come from any thread, or
-// by the ring's points. Both avoid what the discovery, a caller or a check puts out; each backend is checked once for both.
+// Each slot goes by its own kind: by loads, which outlive rebuilds to a membership without their backends, or by the ring's points. Both
+// avoid what the discovery, a caller or a check puts out; each backend is checked once for both.
 #[test]
 fn slots_of_two_kinds(rt: HostRuntime) {
     let alloc = rt.alloc();
