@@ -1,7 +1,6 @@
 mod FirstViews
 mod Judged
 mod Kepts
-mod Memberships
 mod OfTexts
 mod Parted
 mod Refused

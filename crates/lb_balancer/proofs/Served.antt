@@ -15,11 +15,12 @@ use Rattle.lb_health_view.specs.RegistrySide.{after_settings, view_updated, with
 use Rattle.lb_health_view.specs.ViewEvents.{ViewEvent, Set, Shown, generation_after, membership_after}
 use Rattle.lb_health_view.specs.Views.{IsViewAfter}
 use Rattle.lb_balancer_core.specs.Balancer.{IsJudged}
+use Rattle.lb_balancer_core.specs.ServedViews.{ServedViewValue, Takes}
+use Rattle.lb_balancer_core.proofs.Memberships.{kept-members, new-members}
 use Rattle.lb_threads_core.specs.Registry.{IsRegistryOf}
 use Rattle.lb_balancer.specs.Texts.{one_view}
-use Rattle.lb_balancer.specs.History.{AreDiscovered, BalancerValue, IsServedBy, IsShownBy, MayGive, Takes}
-use Rattle.lb_balancer.specs.Shown.{AreUnready, ServingValue, ShownValue, ShowsView}
-use Rattle.lb_balancer.proofs.Memberships.{kept-members, new-members}
+use Rattle.lb_balancer.specs.History.{AreDiscovered, BalancerValue, IsServedBy, IsShownBy, MayGive}
+use Rattle.lb_balancer.specs.Shown.{AreUnready, ShownValue, ShowsView}
 
 by-flag : (b : Bool) (m : Member) (on : Bool) (views : List ViewEvent)
     → generation_after (if b then Set m on ∷ views else views) ≡ generation_after views
@@ -86,7 +87,7 @@ taken d members settings cells views false other found before =
     (record { none = (λ none. absurd (omega (arith, generation, none))); some = (λ some. ∣ (settings, found) ∣₁) })
 
 -- what holds by the key of a lock holds by the balancer whose key that is
-pub known : {D C R : Type 0} {b c : BalancerValue D C R} {s : ServingValue C} → b ≡ c → IsServedBy b s → IsServedBy c s
+pub known : {D C R : Type 0} {b c : BalancerValue D C R} {s : ServedViewValue C} → b ≡ c → IsServedBy b s → IsServedBy c s
 known {s = s} same was = subst (λ x. IsServedBy x s) same was
 
 -- a state of the registry that a balancer was made of is one of the registry that the balancer names
@@ -95,7 +96,7 @@ pub of-registry : {D C R : Type 0} (gives : R → Member → Member → Type 0) 
 of-registry gives {cells = cells} {c = c} start same is =
     subst (λ r. IsRegistryOf gives r cells) (start ∙ ap (λ v. v.registry) same) is
 
-module _ {D C R : Type 0} (b : BalancerValue D C R) {s t : ServingValue C} where
+module _ {D C R : Type 0} (b : BalancerValue D C R) {s t : ServedViewValue C} where
   pub updated : IsServedBy b s → t.config ≡ s.config → (members : List Member) (settings : List (Member × Bool))
       → MayGive b.discovery members settings → Takes members settings s t → IsServedBy b t
   updated was config members settings discovered takes = record {
@@ -137,7 +138,7 @@ module _ {D C R : Type 0} (b : BalancerValue D C R) {s t : ServingValue C} where
       }
 
 -- a copy of what is served is shown, with those that aren't ready by the registry
-pub shown-of : {D C R : Type 0} (gives : R → Member → Member → Type 0) (b : BalancerValue D C R) {s : ServingValue C} {x : ShownValue C}
+pub shown-of : {D C R : Type 0} (gives : R → Member → Member → Type 0) (b : BalancerValue D C R) {s : ServedViewValue C} {x : ShownValue C}
     {cells : RegistryValue R} → IsServedBy b s → x.config ≡ s.config → ShowsView s.view x → IsRegistryOf gives b.registry cells
     → AreUnready (IsJudged gives s.view cells) x.members x.unready → IsShownBy gives b x
 shown-of gives b {s = s} {cells = cells} was config shows registry judged = record {

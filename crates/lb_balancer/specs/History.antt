@@ -1,16 +1,16 @@
 -- What a balancer that threads share may serve and show: what some of its own updates left. Other threads go on changing it, so a call is
 -- made at some state of it.
-use Rattle.std.specs.Prelude.{◌≡◌, ◌<◌, ◌≤◌, ⊤, ℕ, Bool, List, [], ◌∷◌}
+use Rattle.std.specs.Prelude.{◌≡◌, ◌<◌, ◌≤◌, ⊤, ℕ, Bool, List, []}
 use Rattle.lb_select_base.specs.Backends.{Member}
 use Rattle.lb_health_core.specs.Registry.{RegistryValue}
 use Rattle.lb_health_view.specs.Discoveries.{Discovers}
 use Rattle.lb_health_view.specs.declared.discovery.DiscoverySource.{DiscoverySource}
-use Rattle.lb_health_view.specs.RegistrySide.{after_settings, with_membership}
-use Rattle.lb_health_view.specs.ViewEvents.{ViewEvent, Set, generation_after, membership_after}
+use Rattle.lb_health_view.specs.ViewEvents.{ViewEvent, generation_after, membership_after}
 use Rattle.lb_health_view.specs.Views.{IsViewAfter}
 use Rattle.lb_balancer_core.specs.Balancer.{IsJudged}
+use Rattle.lb_balancer_core.specs.ServedViews.{ServedViewValue}
 use Rattle.lb_threads_core.specs.Registry.{IsRegistryOf}
-use Rattle.lb_balancer.specs.Shown.{AreUnready, ServingValue, ShownValue, ShowsView}
+use Rattle.lb_balancer.specs.Shown.{AreUnready, ShownValue, ShowsView}
 
 -- what a caller knows of a balancer: its discovery, what its selectors are built with, the generation at which it was made, and its
 -- registry of health, as it was when it came under its lock
@@ -33,7 +33,7 @@ pub record AreDiscovered {D : Type 0} (discovery : DiscoverySource D) (generatio
 
 module _ {D C R : Type 0} (b : BalancerValue D C R) where
   -- what the balancer may serve: a view whose newest membership was discovered, and a selector that is built with its configuration
-  pub record IsServedBy (s : ServingValue C) : Type 0 where
+  pub record IsServedBy (s : ServedViewValue C) : Type 0 where
     pub config : s.config ≡ b.config
     pub views : List ViewEvent
     pub view : IsViewAfter views s.view
@@ -43,19 +43,19 @@ module _ {D C R : Type 0} (b : BalancerValue D C R) where
   -- a generation that the balancer may serve, read of what it served at that moment
   abbrev pub IsServedGeneration : ℕ → Type 0
   IsServedGeneration n =
-      (s : ServingValue C) × IsServedBy s
+      (s : ServedViewValue C) × IsServedBy s
       × ((views : List ViewEvent) → IsViewAfter views s.view → n ≡ generation_after views)
 
   -- a call that was made at some state of what the balancer serves, and left one
-  abbrev pub UnderServing : (ServingValue C → ServingValue C → Type 0) → Type 0
-  UnderServing Call = (s : ServingValue C) × ((t : ServingValue C) × (IsServedBy s × (IsServedBy t × Call s t)))
+  abbrev pub UnderServing : (ServedViewValue C → ServedViewValue C → Type 0) → Type 0
+  UnderServing Call = (s : ServedViewValue C) × ((t : ServedViewValue C) × (IsServedBy s × (IsServedBy t × Call s t)))
 
 module _ {R : Type 0} (gives : R → Member → Member → Type 0) {D C : Type 0} (b : BalancerValue D C R) where
   -- whether a backend was ready in the membership of a generation, at some state of what the balancer serves, which was this generation,
   -- and of its registry
   abbrev pub JudgedIn : ℕ → Member → Bool → Type 0
   JudgedIn n m ready =
-      (s : ServingValue C) × (IsServedBy b s
+      (s : ServedViewValue C) × (IsServedBy b s
       × (((views : List ViewEvent) → IsViewAfter views s.view → n ≡ generation_after views)
       × ((cells : RegistryValue R) × (IsRegistryOf gives b.registry cells × IsJudged gives s.view cells m ready))))
 
@@ -69,32 +69,9 @@ module _ {R : Type 0} (gives : R → Member → Member → Type 0) {D C : Type 0
     pub config : s.config ≡ b.config
     pub first : b.first ≤ s.generation
     pub discovered : AreDiscovered b.discovery s.generation s.members
-    pub served : ServingValue C
+    pub served : ServedViewValue C
     pub was_served : IsServedBy b served
     pub shows : ShowsView served.view s
     pub cells : RegistryValue R
     pub was_registry : IsRegistryOf gives b.registry cells
     pub judged : AreUnready (IsJudged gives served.view cells) s.members s.unready
-
--- a backend that the newest membership lists was enabled or disabled
-abbrev pub SetsFlag : {C : Type 0} → Member → Bool → ServingValue C → ServingValue C → Type 0
-SetsFlag b enabled s t = (views : List ViewEvent) → IsViewAfter views s.view → IsViewAfter (Set b enabled ∷ views) t.view
-
--- a view took members and settings
-abbrev pub Takes : {C : Type 0} → List Member → List (Member × Bool) → ServingValue C → ServingValue C → Type 0
-Takes members settings s t =
-    (cells : List (Member × ℕ)) × ((views : List ViewEvent) → IsViewAfter views s.view
-    → IsViewAfter (after_settings settings (with_membership members cells views)) t.view)
-
--- view and selector are as this history left them: the selector is that of the newest membership
-pub record StandsBy {C : Type 0} (views : List ViewEvent) (s : ServingValue C) : Type 0 where
-  pub view : IsViewAfter views s.view
-  pub selector : s.members ≡ membership_after views
-
--- Members and settings were taken in: other members became the newest membership, whose selector is served, and then the settings reached
--- it.
-pub record TakesIn {C : Type 0} (members : List Member) (settings : List (Member × Bool)) (s t : ServingValue C) : Type 0 where
-  pub views : List ViewEvent
-  pub cells : List (Member × ℕ)
-  pub before : StandsBy views s
-  pub after : StandsBy (after_settings settings (with_membership members cells views)) t

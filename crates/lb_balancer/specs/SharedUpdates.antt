@@ -1,19 +1,17 @@
 -- What is known of the update of a balancer that threads share: what it read of the clock, and why it is refused; and how the sleep of one
 -- that is driven ends.
-use Rattle.std.specs.Prelude.{◌≡◌, ◌⊎◌, ℕ, Bool, List, length, Option, Some, None, unwrap_or, ◌≤◌}
+use Rattle.std.specs.Prelude.{◌≡◌, ◌⊎◌, ℕ, Bool, List, length, Option, Some, None, ◌≤◌}
 use Rattle.lb_select_base.specs.Backends.{Member}
 use Rattle.lb_select_base.specs.Refusals.{memory_apart}
 use Rattle.lb_select_base.specs.declared.refusal.Refusal.{Refusal}
 use Rattle.lb_select_base.specs.declared.refusal.Refusal.TheVariants.{Discovery, OutOfMemory, GenerationsExhausted}
 use Rattle.lb_health_core.specs.Registry.{RegistryValue}
-use Rattle.lb_health_view.specs.Causes.{IsRegistryRefusal, view_cause}
+use Rattle.lb_health_view.specs.Causes.{IsRegistryRefusal}
 use Rattle.lb_health_view.specs.Discoveries.{Discovers, Found, MayFault, MayLackMemory}
-use Rattle.lb_health_view.specs.Snapshots.{ViewValue}
-use Rattle.lb_health_view.specs.Views.{HoldsOfBoth}
+use Rattle.lb_balancer_core.specs.ServedViews.{IsLeastCause, ServedViewValue, TakesIn}
 use Rattle.lb_balancer_core.specs.Timings.{Reads}
 use Rattle.lb_threads_core.specs.Registry.{IsRegistryOf}
-use Rattle.lb_balancer.specs.History.{BalancerValue, IsServedBy, TakesIn, UnderServing}
-use Rattle.lb_balancer.specs.Shown.{ServingValue}
+use Rattle.lb_balancer.specs.History.{BalancerValue, IsServedBy, UnderServing}
 use Rattle.lb_background.specs.declared.event.Event.{Event}
 use Rattle.lb_background.specs.declared.event.Event.TheVariants as on
 
@@ -28,17 +26,12 @@ pub record IsSharedUpdated {D C R : Type 0} (finds : D → Found → Type 0) (b 
   pub discovered : Discovers finds b.discovery members settings
   pub taken : UnderServing b (TakesIn members settings)
 
--- the least cause for which view and registry refuse another membership, whatever they have been through, or where none applies memory
-abbrev pub IsLeastCause : {R : Type 0} → (R → Member → Member → Type 0) → ViewValue → RegistryValue R → List Member → Refusal → Type 0
-IsLeastCause gives v x members r =
-    HoldsOfBoth gives v x (λ key_of views events. r ≡ unwrap_or (view_cause key_of v.id members events views) OutOfMemory)
-
 module _ {D C R : Type 0} (gives : R → Member → Member → Type 0) (b : BalancerValue D C R) (members : List Member) where
   -- At some state of what the balancer serves and of its registry, view and registry refuse the membership for this: the least cause that
   -- applies there, and memory only where none does.
   pub record IsRoomRefusal (r : Refusal) : Type 0 where
     pub kind : (r ≡ GenerationsExhausted) ⊎ IsRegistryRefusal r
-    pub served : ServingValue C
+    pub served : ServedViewValue C
     pub was_served : IsServedBy b served
     pub cells : RegistryValue R
     pub was_registry : IsRegistryOf gives b.registry cells

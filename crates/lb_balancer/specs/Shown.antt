@@ -17,12 +17,6 @@ pub record ShownValue (C : Type 0) : Type 0 where
   pub config : C
   pub unready : List Member
 
--- a view, and its newest membership, of which the served selector is built with this configuration
-pub record ServingValue (C : Type 0) : Type 0 where
-  pub view : ViewValue
-  pub members : List Member
-  pub config : C
-
 -- whether no member of the backend's identity was found not ready; and whether there is such a member too
 abbrev pub is_up : List Member → Member → Bool
 is_up unready b = not (list_any (same_member b) unready)

@@ -1,6 +1,7 @@
 //! The backends of a balancer, as it lends them to threads.
 ghost use Rattle.std.specs.Prelude.{◌≡◌};
-ghost use Rattle.lb_balancer.specs.History.{IsServedGeneration, IsShownBy, JudgedBy, SetsFlag, UnderServing};
+ghost use Rattle.lb_balancer_core.specs.ServedViews.{SetsFlag};
+ghost use Rattle.lb_balancer.specs.History.{IsServedGeneration, IsShownBy, JudgedBy, UnderServing};
 ghost use Rattle.lb_balancer.specs.Shown.{ShownValue};
 
 use crate::load_balancer::LoadBalancer;

@@ -1,5 +1,5 @@
-//! What a balancer serves, as a plain value: a view, the selector of its newest membership, and the selector's words. Each call is made
-//! under a lock; nothing is built and nothing is dropped here.
+//! What a balancer serves, as a plain value: a view with the selector of its newest membership, and the selector's words. Each call is
+//! made under a lock; nothing is built and nothing is dropped here.
 ghost use Rattle.std.specs.Prelude.{◌≡◌, ◌⊎◌, List, ◌∷◌, IfOk, IfErr, OnOk, OnErr, Err, Bool, true, not, unwrap_or};
 ghost use Rattle.std.specs.Arc.{arc_value};
 ghost use Rattle.lb_select_base.specs.Memberships.{same_members};
@@ -11,11 +11,11 @@ ghost use Rattle.lb_health_view.specs.Views.{IsFounded, IsViewAfter, IsViewRefus
 ghost use Rattle.lb_health_view.specs.RegistrySide.{registry_updated, settings_of, view_updated};
 ghost use Rattle.lb_health_view.specs.ViewEvents.{ViewEvent, generation_after, membership_after};
 ghost use Rattle.lb_balancer_core.specs.Balancer.{IsJudged};
-ghost use Rattle.lb_balancer.specs.History.{SetsFlag, Takes, TakesIn};
-ghost use Rattle.lb_balancer.specs.SharedUpdates.{IsLeastCause};
+ghost use Rattle.lb_balancer_core.specs.ServedViews.{IsLeastCause, SetsFlag, Takes, TakesIn};
 ghost use Rattle.lb_balancer.specs.Shown.{AreUnready, ShowsView};
 
 use crate::shown::{Shown, Version};
+use lb_balancer_core::served_view::{ServedView, selector_of};
 use lb_health_core::keys::KeyRule;
 use lb_health_core::registry::Registry;
 use lb_health_view::view::{Settings, ViewCore};
@@ -49,44 +49,42 @@ impl<S: BackendSelection> Drop for BuiltSelector<S> {
 }
 
 impl<S: BackendSelection> BuiltSelector<S> {
-    // The words for the loads, once more.
-    fn loads_again(&self) -> Option<Arc<LoadWords>> {
-        match &self.loads {
-            Some(words) => Arc::try_clone(words).ok(),
-            None => None,
-        }
+    // The selector, its words, and those for the loads.
+    fn into_parts(self) -> (Arc<S>, Arc<SharedWords>, Option<Arc<LoadWords>>)
+        ensures { result.0 ≡ self.selector }
+    {
+        let BuiltSelector {
+            selector,
+            words,
+            loads,
+        } = self;
+        (selector, words, loads)
     }
 }
 
-/// A view, and the selector of its newest membership. Contracts see the view by the history of its events; each view has some history.
+/// A view with the selector of its newest membership, as contracts see it, and the selector's words.
 pub struct Serving<S: BackendSelection> {
-    view: ViewCore,
-    built: BuiltSelector<S>,
+    served: ServedView<S>,
+    words: Arc<SharedWords>,
+    loads: Option<Arc<LoadWords>>,
 }
 
 impl<S: BackendSelection> Drop for Serving<S> {
     fn drop(self) {
-        let Serving { view: _, built: _ } = self;
+        let Serving {
+            served: _,
+            words: _,
+            loads: _,
+        } = self;
     }
 }
 
 impl<S: BackendSelection> Model for Serving<S> {
-    ghost use Rattle.std.specs.Prelude.{◌≡◌, List};
-    ghost use Rattle.std.specs.Arc.{arc_value};
-    ghost use Rattle.lb_health_view.specs.ViewEvents.{ViewEvent, membership_after};
-    ghost use Rattle.lb_health_view.specs.Views.{IsViewAfter};
-    ghost use Rattle.lb_balancer.specs.Shown.{ServingValue};
+    ghost use Rattle.lb_balancer_core.specs.ServedViews.{ServedViewValue};
 
-    ghost Value = { ServingValue S.Config };
+    ghost Value = { ServedViewValue S.Config };
 
-    ghost view = { λ s. record {
-      view = s.view;
-      members = S.members (arc_value s.built.selector);
-      config = S.built_with (arc_value s.built.selector);
-    } };
-
-    ghost invariant = { λ s. (views : List ViewEvent) × IsViewAfter views s.view
-        × (S.members (arc_value s.built.selector) ≡ membership_after views) };
+    ghost view = { λ s. s.served };
 }
 
 impl<S: BackendSelection> Serving<S> {
@@ -99,7 +97,12 @@ impl<S: BackendSelection> Serving<S> {
           config = S.built_with (arc_value built.selector);
         } }
     {
-        Serving { view, built }
+        let (selector, words, loads) = built.into_parts();
+        Serving {
+            served: ServedView::new(view, selector),
+            words,
+            loads,
+        }
     }
 
     /// States that some history explains the view, so that what holds after each of its histories holds after one.
@@ -108,36 +111,35 @@ impl<S: BackendSelection> Serving<S> {
     pub fn founded(&self)
         ensures { IsFounded self.now.view }
     {
-        // For the prover alone: this shows it the view's invariant, and does nothing at run time.
-        let _view = &self.view;
+        self.served.founded();
     }
 
     /// Has words of this number for the loads of the newest membership.
     pub fn take_loads<W: Wait>(&mut self, rt: &W, alloc: Global, loads: &SharedLoads, number: u64)
         ensures { self.new ≡ self.old }
     {
-        self.built.loads = loads.words(rt, alloc, number, self.view.members());
+        self.loads = loads.words(rt, alloc, number, self.served.members());
     }
 
     /// Returns the number of the view in its registry.
     pub fn view_id(&self) -> u64
         ensures { result ≡ self.now.view.id }
     {
-        self.view.id()
+        self.served.view_id()
     }
 
     /// Returns the newest generation; 0 before the first membership.
     pub fn generation(&self) -> u64
         ensures { (views : List ViewEvent) → IsViewAfter views self.now.view → result ≡ generation_after views }
     {
-        self.view.generation()
+        self.served.generation()
     }
 
     /// Returns whether the newest membership is this one, by identity, without taking memory.
     pub fn is_membership(&self, members: &BTreeSet<Backend>) -> bool
         ensures { result ≡ same_members members.now.keys self.now.members }
     {
-        self.view.is_membership(members)
+        self.served.is_membership(members)
     }
 
     /// Takes settings of a discovery that gave the same membership.
@@ -158,9 +160,7 @@ impl<S: BackendSelection> Serving<S> {
         ensures config { self.new.config ≡ self.old.config }
         ensures one_registry { registry.new.id ≡ registry.old.id }
     {
-        let _ = self
-            .view
-            .update(alloc, registry, members, settings, |_members| ());
+        self.served.keep(alloc, registry, members, settings);
     }
 
     /// Shows another membership, and serves the selector that is built of it. Returns what isn't served then.
@@ -195,13 +195,35 @@ impl<S: BackendSelection> Serving<S> {
         ensures config { self.new.config ≡ self.old.config }
         ensures one_registry { registry.new.id ≡ registry.old.id }
     {
-        match self
-            .view
-            .update(alloc, registry, members, settings, |_members| ())
-        {
-            Ok(Some(())) => (mem::replace(&mut self.built, built), Ok(())),
-            Ok(None) => (built, Ok(())),
-            Err(refusal) => (built, Err(refusal)),
+        let (selector, words, loads) = built.into_parts();
+        let (selector, answer) = self
+            .served
+            .renew(alloc, registry, members, settings, selector);
+        match answer {
+            Ok(true) => {
+                let unserved = BuiltSelector {
+                    selector,
+                    words: mem::replace(&mut self.words, words),
+                    loads: mem::replace(&mut self.loads, loads),
+                };
+                (unserved, Ok(()))
+            }
+            Ok(false) => {
+                let unserved = BuiltSelector {
+                    selector,
+                    words,
+                    loads,
+                };
+                (unserved, Ok(()))
+            }
+            Err(refusal) => {
+                let unserved = BuiltSelector {
+                    selector,
+                    words,
+                    loads,
+                };
+                (unserved, Err(refusal))
+            }
         }
     }
 
@@ -216,14 +238,14 @@ impl<S: BackendSelection> Serving<S> {
         ensures kind { (result ≡ Refusal.GenerationsExhausted) ⊎ IsRegistryRefusal result }
         ensures least { IsLeastCause R.gives self.now.view registry.now members.now.keys result }
     {
-        self.view.cause(registry, members)
+        self.served.cause(registry, members)
     }
 
     /// Returns whether a backend is ready in the newest membership, without taking memory.
     pub fn ready<R: KeyRule + Drop>(&self, registry: &Registry<R>, backend: &Backend) -> bool
         ensures { IsJudged R.gives self.now.view registry.now backend.now result }
     {
-        self.view.ready(registry, backend)
+        self.served.ready(registry, backend)
     }
 
     /// Enables or disables a backend that the newest membership lists, by identity; another is left alone.
@@ -234,7 +256,7 @@ impl<S: BackendSelection> Serving<S> {
         ensures members { self.new.members ≡ self.old.members }
         ensures config { self.new.config ≡ self.old.config }
     {
-        self.view.set_enable(backend, enabled);
+        self.served.set_enable(backend, enabled);
     }
 
     /// Marks the view for removal from the registry, and releases the cells of its newest generation.
@@ -245,8 +267,9 @@ impl<S: BackendSelection> Serving<S> {
             (Released self.now.view.id (generation_after views) ∷ Marked self.now.view.id ∷ events) registry.new) }
         ensures one_registry { registry.new.id ≡ registry.old.id }
     {
-        registry.remove_view(self.view.id());
-        registry.release(self.view.id(), self.view.generation());
+        let id = self.served.view_id();
+        registry.remove_view(id);
+        registry.release(id, self.served.generation());
     }
 
     /// Returns what is served now, with these loads, and which members aren't ready by the registry as it is.
@@ -265,15 +288,23 @@ impl<S: BackendSelection> Serving<S> {
         ensures refused { IfErr result (λ e. e ≡ Refusal.OutOfMemory) }
     {
         Ok(Shown {
-            generation: self.view.generation(),
-            members: self.view.get_backend()?,
-            selector: Arc::try_clone(&self.built.selector)?,
-            words: Arc::try_clone(&self.built.words)?,
+            generation: self.served.generation(),
+            members: self.served.get_backend()?,
+            selector: Arc::try_clone(self.served.selector())?,
+            words: Arc::try_clone(&self.words)?,
             loads: Arc::try_clone(loads)?,
-            load_words: self.built.loads_again(),
-            unready: unready_of(alloc, &self.view, registry)?,
+            load_words: self.loads_again(),
+            unready: unready_of(alloc, &self.served, registry)?,
             version,
         })
+    }
+
+    // The words for the loads, once more.
+    fn loads_again(&self) -> Option<Arc<LoadWords>> {
+        match &self.loads {
+            Some(words) => Arc::try_clone(words).ok(),
+            None => None,
+        }
     }
 }
 
@@ -290,11 +321,7 @@ pub(crate) fn built_of<S: BackendSelection>(
         (λ b. (S.members (arc_value b.selector) ≡ members.now.keys)
         × (S.built_with (arc_value b.selector) ≡ unwrap_or config.now S.default_config)) result }
 {
-    let selector = match config {
-        Some(config) => S::build_with_config(alloc, members, config)?,
-        None => S::build(alloc, members)?,
-    };
-    let selector = Arc::new(alloc, selector)?;
+    let selector = selector_of::<S>(alloc, members, config)?;
     let words = Arc::new(alloc, SharedWords::new(Pcg64::new(u128::from(seed), 1)))?;
     Ok(BuiltSelector {
         selector,
@@ -304,18 +331,18 @@ pub(crate) fn built_of<S: BackendSelection>(
 }
 
 // The members of a view's newest generation that aren't ready. No others are copied.
-fn unready_of<R: KeyRule + Drop>(
+fn unready_of<S: BackendSelection, R: KeyRule + Drop>(
     alloc: Global,
-    view: &ViewCore,
+    served: &ServedView<S>,
     registry: &Registry<R>,
 ) -> Result<BTreeSet<Backend>, Refusal>
-    ensures judged { IfOk result (λ set. (views : List ViewEvent) → IsViewAfter views view.now
-        → AreUnready (IsJudged R.gives view.now registry.now) (membership_after views) set.keys) }
+    ensures judged { IfOk result (λ set. (views : List ViewEvent) → IsViewAfter views served.now.view
+        → AreUnready (IsJudged R.gives served.now.view registry.now) (membership_after views) set.keys) }
     ensures refused { IfErr result (λ e. e ≡ Refusal.OutOfMemory) }
 {
     let mut unready = BTreeSet::new(alloc);
-    for backend in view.members() {
-        if !view.ready(registry, backend) {
+    for backend in served.members() {
+        if !served.ready(registry, backend) {
             unready.insert(backend.copied(alloc)?)?;
         }
     }

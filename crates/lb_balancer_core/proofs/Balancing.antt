@@ -1,16 +1,14 @@
 -- An update of view and selector: what it does to the history, and why it is refused.
-use Rattle.std.proofs.Common.{◌≡◌, ◌⊎◌, inl, inr, ◌∙◌, ◌+◌, ◌^◌, ◌≤◌, ℕ, Bool, true, false, not, nat_le, List, [], ◌∷◌, Option, Some, None}
-use Rattle.std.proofs.Common.{refl, sym, ap, subst, arith, unwrap_or}
-use Rattle.std.specs.Prelude.{◌≢◌, ◌==◌, if◌then◌else◌}
+use Rattle.std.proofs.Common.{◌≡◌, ◌⊎◌, inl, inr, ◌∙◌, ℕ, Bool, true, false, List, [], ◌∷◌, Option, Some, None, refl, sym, ap, subst}
+use Rattle.std.proofs.Common.{unwrap_or}
+use Rattle.std.specs.Prelude.{if◌then◌else◌}
 use Rattle.std.specs.List.{list_any}
 use Rattle.std.specs.Option.{option_or}
-use Rattle.std.proofs.lemmas.Bool.{false≢true, eq-eqb}
-use Rattle.std.proofs.lemmas.Bool.Decides.{nat_tests}
 use Rattle.lb_select_base.specs.Backends.{Member, same_member}
 use Rattle.lb_select_base.specs.Memberships.{same_members}
 use Rattle.lb_select_base.specs.Refusals.{memory_apart}
 use Rattle.lb_select_base.specs.declared.refusal.Refusal.{Refusal}
-use Rattle.lb_select_base.specs.declared.refusal.Refusal.TheVariants.{GenerationsExhausted, NoSuch, NumbersExhausted, OutOfMemory}
+use Rattle.lb_select_base.specs.declared.refusal.Refusal.TheVariants.{OutOfMemory}
 use Rattle.lb_select_base.specs.declared.words.CoreWords.{CoreWords}
 use Rattle.lb_health_core.specs.RegistryEvents as registry
 use Rattle.lb_health_view.specs.RegistrySide as joined
@@ -19,7 +17,7 @@ use Rattle.lb_health_view.specs.ViewEvents as view
 use Rattle.lb_health_view.specs.Views.{IsViewAfter}
 use Rattle.lb_balancer_core.specs.Balancer.{Updated, Set, History, view_events, members_now, tickets_after, after_settings, with_membership}
 use Rattle.lb_health_view.specs.Causes.{view_cause}
-use Rattle.lb_balancer_core.specs.Balancer.{ServedValue, Stands, update_cause}
+use Rattle.lb_balancer_core.specs.Balancer.{Stands, update_cause}
 
 -- a setting changes the view alone
 set-view : (b : Bool) (m : Member) (on : Bool) (e : History)
@@ -75,14 +73,20 @@ seen settings members cells e w after = subst (λ vs. IsViewAfter vs w) (sym (vi
 module _ {C G : Type 0} (e : History) (members : List Member) (settings : List (Member × Bool)) (cells : List (Member × ℕ)) (w : ViewValue)
     (after : IsViewAfter (joined.after_settings settings (joined.with_membership members cells (view_events e))) w) where
   -- the same membership leaves selector and words as they are
-  pub stands-same : (v : ServedValue C G) → Stands e v → same_members members (members_now e) ≡ true
-      → Stands (after_settings settings (with_membership members cells e)) (record v { view = w })
-  stands-same v s same =
+  pub stands-same : (config : C) (built : List Member) (words : CoreWords G) → same_members members (members_now e) ≡ true
+      → built ≡ members_now e → words.tickets ≡ tickets_after e
+      → Stands (after_settings settings (with_membership members cells e)) (record {
+        view = w;
+        config = config;
+        members = built;
+        words = words;
+      })
+  stands-same config built words same of counted =
       let kept : with_membership members cells e ≡ e = rw same refl in
       record {
         view = seen settings members cells e w after;
-        members = s.members ∙ sym (settings-members settings (with_membership members cells e) ∙ ap members_now kept);
-        tickets = s.tickets ∙ sym (settings-tickets settings (with_membership members cells e) ∙ ap tickets_after kept);
+        members = of ∙ sym (settings-members settings (with_membership members cells e) ∙ ap members_now kept);
+        tickets = counted ∙ sym (settings-tickets settings (with_membership members cells e) ∙ ap tickets_after kept);
       }
 
   -- another membership comes with a selector that is built of it, whose counter is at 0
@@ -115,33 +119,18 @@ pub refused-build : (build : Option Refusal) (key_of : Member → Member) (id : 
     × (r ≡ OutOfMemory))
 refused-build build key_of id members events e r same h = rw same (told _ r h)
 
-by-tests : (a b c : Bool) → (a ≡ true → ⊥) → (a ≡ false → b ≡ false → ⊥) → (a ≡ false → b ≡ true → c ≡ true → ⊥)
-    → (if a then Some GenerationsExhausted else if not b then Some NoSuch else if c then Some NumbersExhausted else None) ≡ None
-by-tests true b c p q r = absurd (p refl)
-by-tests false false c p q r = absurd (q refl refl)
-by-tests false true true p q r = absurd (r refl refl refl)
-by-tests false true false p q r = refl
-
-equal-of : (n m : ℕ) → (n == m) ≡ true → n ≡ m
-equal-of n m e = grind (arith, nat_tests)
-
-least-of : (n m : ℕ) → nat_le n m ≡ true → n ≤ m
-least-of n m e = grind (arith, nat_tests)
-
-differ-of : (n m : ℕ) → (n == m) ≡ false → n ≢ m
-differ-of n m e h = false≢true (sym e ∙ eq-eqb n m h)
-
--- where nothing is refused there is no cause
+-- what view and registry have no cause for has none where its selector was built
 pub no-cause : (build : Option Refusal) (key_of : Member → Member) (id : ℕ) (members : List Member) (events : List registry.Event)
     (e : History)
     → same_members members (members_now e) ≡ false → memory_apart build ≡ None
-    → (view.generation_after (view_events e) + 1 ≡ 2 ^ 64 → ⊥)
-    → (view.generation_after (view_events e) + 1 ≢ 2 ^ 64 → registry.has_view id (registry.views_after events) ≡ false → ⊥)
-    → (view.generation_after (view_events e) + 1 ≢ 2 ^ 64 → registry.has_view id (registry.views_after events) ≡ true
-    → 2 ^ 64 ≤ registry.cells_given key_of (registry.Updated id members ∷ registry.Applied ∷ events) → ⊥)
-    → update_cause build key_of id members events e ≡ None
-no-cause build key_of id members events e same made last missing lacking =
-    let free = by-tests (view.generation_after (view_events e) + 1 == 2 ^ 64) (registry.has_view id (registry.views_after events))
-    (nat_le (2 ^ 64) (registry.cells_given key_of (registry.Updated id members ∷ registry.Applied ∷ events)))
-    (λ a. last (equal-of _ _ a)) (λ a b. missing (differ-of _ _ a) b) (λ a b c. lacking (differ-of _ _ a) b (least-of _ _ c)) in
-    rw (same, made) free
+    → view_cause key_of id members events (view_events e) ≡ None → update_cause build key_of id members events e ≡ None
+no-cause build key_of id members events e same made free = rw (same, made) free
+
+-- and what they refuse it for is the cause of the update
+pub refused-renewal : (build : Option Refusal) (key_of : Member → Member) (id : ℕ) (members : List Member) (events : List registry.Event)
+    (e : History) (r : Refusal)
+    → same_members members (members_now e) ≡ false → memory_apart build ≡ None
+    → r ≡ unwrap_or (view_cause key_of id members events (view_events e)) OutOfMemory
+    → (update_cause build key_of id members events e ≡ Some r) ⊎ ((update_cause build key_of id members events e ≡ None)
+    × (r ≡ OutOfMemory))
+refused-renewal build key_of id members events e r same made h = rw (same, made) (told _ r h)

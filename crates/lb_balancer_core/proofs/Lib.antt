@@ -4,5 +4,7 @@ pub mod Choosing
 pub mod Readings
 pub mod TextLemmas
 pub mod Dues
+pub mod LeastCauses
+pub mod Memberships
 pub mod Plains
 pub mod Visits

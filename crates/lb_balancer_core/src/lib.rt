@@ -13,6 +13,7 @@ mod plain_calls;
 pub mod port;
 pub mod select;
 pub mod served;
+pub mod served_view;
 pub mod slot_configs;
 pub mod timings;
 pub mod turn;

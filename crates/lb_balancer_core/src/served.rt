@@ -1,4 +1,4 @@
-//! A view with the selector that is built of its newest membership: the two change as one, or not at all.
+//! A view with the selector that is built of its newest membership, and that selector's words: they change as one, or not at all.
 ghost use Rattle.std.specs.Prelude.{◌≡◌, ◌↔◌, ◌≤◌, ◌+◌, ◌-◌, ◌^◌, ◌∷◌, [], ℕ, None, MatchOption, true, false, unwrap_or};
 ghost use Rattle.std.specs.Prelude.{IfOk, IfErr, IsErrOf, OnOk, OnErr};
 ghost use Rattle.std.specs.Arc.{arc_value};
@@ -19,6 +19,7 @@ ghost use Rattle.lb_balancer_core.specs.Balancer.{updated, view_events};
 ghost use Rattle.lb_health_view.specs.Causes.{view_cause};
 ghost use Rattle.lb_balancer_core.specs.Timings.{Reads};
 
+use crate::served_view::{ServedView, selector_of};
 use lb_health_core::keys::KeyRule;
 use lb_health_core::registry::Registry;
 use lb_health_view::view::{Settings, ViewCore};
@@ -35,11 +36,10 @@ use std::collections::BTreeSet;
 use std::marker::Model;
 use std::sync::Arc;
 
-/// What a `Served` is made of: a view, the selector of its newest membership, and the generator of random words.
+/// What a `Served` is made of: a view with the selector of its newest membership, and the generator of random words.
 #[derive(Drop)]
 pub struct ServedParts<S: BackendSelection, G: Drop> {
-    pub view: ViewCore,
-    pub selector: Arc<S>,
+    pub served: ServedView<S>,
     pub generator: G,
 }
 
@@ -48,19 +48,17 @@ pub struct ServedParts<S: BackendSelection, G: Drop> {
 ///
 /// Contracts describe it by the history of its events; some history explains each.
 pub struct Served<S: BackendSelection, G: Drop> {
-    view: ViewCore,
+    served: ServedView<S>,
     // None: that of `S::build`.
     config: Option<S::Config>,
-    selector: Arc<S>,
     words: CoreWords<G>,
 }
 
 impl<S: BackendSelection, G: Drop> Drop for Served<S, G> {
     fn drop(self) {
         let Served {
-            view: _,
+            served: _,
             config: _,
-            selector: _,
             words: _,
         } = self;
     }
@@ -68,22 +66,21 @@ impl<S: BackendSelection, G: Drop> Drop for Served<S, G> {
 
 impl<S: BackendSelection, G: Drop> Model for Served<S, G> {
     ghost use Rattle.std.specs.Prelude.{◌≡◌, unwrap_or};
-    ghost use Rattle.std.specs.Arc.{arc_value};
     ghost use Rattle.lb_balancer_core.specs.Balancer.{ServedValue, IsFounded};
 
     ghost Value = { ServedValue S.Config G };
 
     ghost view = { λ b. record {
-      view = b.view;
+      view = b.served.view;
       config = unwrap_or b.config S.default_config;
-      members = S.members (arc_value b.selector);
+      members = b.served.members;
       words = b.words;
     } };
 
-    ghost invariant = { λ b. (S.built_with (arc_value b.selector) ≡ unwrap_or b.config S.default_config) × IsFounded (record {
-      view = b.view;
+    ghost invariant = { λ b. (b.served.config ≡ unwrap_or b.config S.default_config) × IsFounded (record {
+      view = b.served.view;
       config = unwrap_or b.config S.default_config;
-      members = S.members (arc_value b.selector);
+      members = b.served.members;
       words = b.words;
     }) };
 }
@@ -123,9 +120,8 @@ impl<S: BackendSelection, G: Rng + Drop> Served<S, G> {
         };
         let view = ViewCore::register(alloc, registry)?;
         Ok(Served {
-            view,
+            served: ServedView::new(view, selector),
             config,
-            selector,
             words: CoreWords::new(generator),
         })
     }
@@ -165,19 +161,24 @@ impl<S: BackendSelection, G: Rng + Drop> Served<S, G> {
         ensures config { self.new.config ≡ self.old.config }
         ensures one_registry { registry.new.id ≡ registry.old.id }
     {
-        if self.view.is_membership(&members) {
-            self.view
-                .update(alloc, registry, members, settings, |_members| ())?;
+        if self.served.is_membership(&members) {
+            self.served.keep(alloc, registry, members, settings);
             return Ok(None);
         }
         let before = clock.now();
-        let selector = build::<S, R>(alloc, &self.view, registry, &members, &self.config)?;
+        let selector = build::<S, R>(alloc, &self.served, registry, &members, &self.config)?;
         let after = clock.now();
-        self.view
-            .update(alloc, registry, members, settings, |_members| ())?;
-        self.selector = selector;
-        self.words.tickets = 0;
-        Ok(Some(after.saturating_sub(before)))
+        let (unserved, answer) = self
+            .served
+            .renew(alloc, registry, members, settings, selector);
+        drop(unserved);
+        match answer {
+            Ok(_) => {
+                self.words.tickets = 0;
+                Ok(Some(after.saturating_sub(before)))
+            }
+            Err(refusal) => Err(refusal),
+        }
     }
 
     /// States that some history explains what is served.
@@ -186,21 +187,18 @@ impl<S: BackendSelection, G: Rng + Drop> Served<S, G> {
     pub fn past(&self)
         ensures { (e : History) × Stands e self.now }
     {
-        // For the prover alone: this shows it the view's invariant, and does nothing at run time.
-        let _view = &self.view;
+        // For the prover alone: this shows it the invariant, and does nothing at run time.
+        let _served = &self.served;
     }
 
     /// Returns what it is made of, for what serves the same in another way. Configuration, loads and counter are let go.
     pub fn into_parts(self) -> ServedParts<S, G>
-        ensures view { result.view ≡ self.view }
-        ensures selector { (S.members (arc_value result.selector) ≡ self.members)
-            × (S.built_with (arc_value result.selector) ≡ self.config) }
+        ensures served { result.served ≡ record { view = self.view; members = self.members; config = self.config } }
         ensures generator { result.generator ≡ self.words.generator }
     {
         let Served {
-            view,
+            served,
             config: _,
-            selector,
             words,
         } = self;
         let CoreWords {
@@ -208,25 +206,21 @@ impl<S: BackendSelection, G: Rng + Drop> Served<S, G> {
             generator,
             loads: _,
         } = words;
-        ServedParts {
-            view,
-            selector,
-            generator,
-        }
+        ServedParts { served, generator }
     }
 
     /// Returns the number of the view in its registry.
     pub fn id(&self) -> u64
         ensures { result ≡ self.now.view.id }
     {
-        self.view.id()
+        self.served.view_id()
     }
 
     /// Returns the newest generation, which is the served one; 0 before the first membership.
     pub fn generation(&self) -> u64
         ensures { After self.now (λ e. result ≡ generation_after (view_events e)) }
     {
-        self.view.generation()
+        self.served.generation()
     }
 
     /// Returns the newest membership.
@@ -236,14 +230,14 @@ impl<S: BackendSelection, G: Rng + Drop> Served<S, G> {
         ensures members { IfOk result (λ set. After self.now (λ e. (arc_value set).keys ≡ members_now e)) }
         ensures refused { OnErr result (result ≡ Err Refusal.OutOfMemory) }
     {
-        self.view.get_backend()
+        self.served.get_backend()
     }
 
     /// Returns whether a backend is ready in the newest membership, without taking memory.
     pub fn ready<R: KeyRule + Drop>(&self, registry: &Registry<R>, backend: &Backend) -> bool
         ensures { HoldsOf R.gives registry.now (λ key_of events. After self.now (λ e. Judges key_of events e backend.now result)) }
     {
-        self.view.ready(registry, backend)
+        self.served.ready(registry, backend)
     }
 
     /// Enables or disables a backend that a living snapshot lists, by identity; another is left alone.
@@ -254,7 +248,7 @@ impl<S: BackendSelection, G: Rng + Drop> Served<S, G> {
         ensures kept { self.new ≡ record self.old { view = self.new.view } }
         ensures id { self.new.view.id ≡ self.old.view.id }
     {
-        self.view.set_enable(backend, enabled);
+        self.served.set_enable(backend, enabled);
     }
 
     /// Sets the load of a backend's identity.
@@ -289,14 +283,14 @@ impl<S: BackendSelection, G: Rng + Drop> Served<S, G> {
         ensures stands { After self.old (λ e. Stands (Drew self.new.words.tickets ∷ e) self.new) }
         ensures kept { self.new ≡ record self.old { words = self.new.words } }
     {
-        let view = &self.view;
+        let served = &self.served;
         let judged = |backend: &Backend| -> bool
             requires { F.IsAlwaysCallable accept.now }
-            ensures { AcceptsBy F.Fn accept.entry.now (IsJudged R.gives view.entry.now registry.entry.now) backend.entry.now result }
-        { accept(backend, view.ready(registry, backend)) };
+            ensures { AcceptsBy F.Fn accept.entry.now (IsJudged R.gives served.entry.now.view registry.entry.now) backend.entry.now result }
+        { accept(backend, served.ready(registry, backend)) };
         select(
             alloc,
-            &self.selector,
+            self.served.selector(),
             key,
             &mut self.words,
             max_iterations,
@@ -321,41 +315,23 @@ impl<S: BackendSelection, G: Rng + Drop> Served<S, G> {
     }
 }
 
-// The selector of a set, by this configuration, or by the default one.
-fn selector_of<S: BackendSelection>(
-    alloc: Global,
-    members: &BTreeSet<Backend>,
-    config: &Option<S::Config>,
-) -> Result<Arc<S>, Refusal>
-    ensures { Refuses (S.refusal members.now.keys (unwrap_or config.now S.default_config))
-        (λ s. (S.members (arc_value s) ≡ members.now.keys)
-        × (S.built_with (arc_value s) ≡ unwrap_or config.now S.default_config)) result }
-{
-    let selector = match config {
-        Some(config) => S::build_with_config(alloc, members, config)?,
-        None => S::build(alloc, members)?,
-    };
-    let selector = Arc::new(alloc, selector)?;
-    Ok(selector)
-}
-
 // The selector of another membership; refused for the least cause that applies, and for memory only where there is none.
 fn build<S: BackendSelection, R: KeyRule + Drop>(
     alloc: Global,
-    view: &ViewCore,
+    served: &ServedView<S>,
     registry: &Registry<R>,
     members: &BTreeSet<Backend>,
     config: &Option<S::Config>,
 ) -> Result<Arc<S>, Refusal>
     ensures made { IfOk result (λ s. (memory_apart (S.refusal members.now.keys (unwrap_or config.now S.default_config)) ≡ None)
         × (S.members (arc_value s) ≡ members.now.keys) × (S.built_with (arc_value s) ≡ unwrap_or config.now S.default_config)) }
-    ensures refused { IfErr result (λ r. HoldsOfBoth R.gives view.now registry.now (λ key_of views events. r
+    ensures refused { IfErr result (λ r. HoldsOfBoth R.gives served.now.view registry.now (λ key_of views events. r
         ≡ unwrap_or (option_or (memory_apart (S.refusal members.now.keys (unwrap_or config.now S.default_config)))
-        (view_cause key_of view.now.id members.now.keys events views)) Refusal.OutOfMemory)) }
+        (view_cause key_of served.now.view.id members.now.keys events views)) Refusal.OutOfMemory)) }
 {
     match selector_of::<S>(alloc, members, config) {
         Ok(selector) => Ok(selector),
-        Err(Refusal::OutOfMemory) => Err(view.cause(registry, members)),
+        Err(Refusal::OutOfMemory) => Err(served.cause(registry, members)),
         Err(refusal) => Err(refusal),
     }
 }

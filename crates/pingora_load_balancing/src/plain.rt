@@ -5,6 +5,7 @@ pub use lb_balancer_core::balancer_core::LoadBalancerCore;
 pub use lb_balancer_core::group_core::LoadBalancerGroupCore;
 pub use lb_balancer_core::lent::{LentBackends, LentGroupBackends};
 pub use lb_balancer_core::served::{Served, ServedParts};
+pub use lb_balancer_core::served_view::ServedView;
 pub use lb_health::{
     Health, Registry, RegistryCore, Target, ViewCore, registry_laws, run_health_check, view_laws,
 };

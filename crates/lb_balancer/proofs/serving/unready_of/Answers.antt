@@ -8,7 +8,7 @@ use Rattle.lb_balancer.proofs.serving.unready_of.Goals as goal
 
 pub loop-backend-init : goal.loop-backend-init
 loop-backend-init g c views after =
-    let right = IsJudged g.R.KeyRule.gives c.args.view.now c.args.registry.now in
+    let right = IsJudged g.R.KeyRule.gives c.args.served.now.view c.args.registry.now in
     let gives = c.into_iter-backend-iterator.ensures.into_iter_gives in
     let keys = c.members-backend-items.result.now.keys in
     let all : keys ≡ membership_after views = c.members-backend-items.ensures views after in
@@ -19,7 +19,7 @@ loop-backend-init g c views after =
 
 pub loop-backend-preserved : goal.loop-backend-preserved
 loop-backend-preserved g c views after =
-    let right = IsJudged g.R.KeyRule.gives c.args.view.now c.args.registry.now in
+    let right = IsJudged g.R.KeyRule.gives c.args.served.now.view c.args.registry.now in
     let all = membership_after views in
     let us = c.loop-backend.unready.keys in
     let b = c.in-Some.backend.now in
@@ -30,7 +30,7 @@ loop-backend-preserved g c views after =
 
 pub loop-backend-preserved-in_ok-insert : goal.loop-backend-preserved-in_ok-insert
 loop-backend-preserved-in_ok-insert g c views after =
-    let right = IsJudged g.R.KeyRule.gives c.args.view.now c.args.registry.now in
+    let right = IsJudged g.R.KeyRule.gives c.args.served.now.view c.args.registry.now in
     let all = membership_after views in
     let us = c.loop-backend.unready.keys in
     let b = c.in-Some.backend.now in
@@ -42,7 +42,7 @@ loop-backend-preserved-in_ok-insert g c views after =
 
 pub returns-clause-judged : goal.returns-clause-judged
 returns-clause-judged g c views after =
-    let right = IsJudged g.R.KeyRule.gives c.args.view.now c.args.registry.now in
+    let right = IsJudged g.R.KeyRule.gives c.args.served.now.view c.args.registry.now in
     let us = c.loop-backend.unready.keys in
     let over : c.loop-backend.backend-iterator ≡ [] = search rules in
     parted-all right (membership_after views) us

@@ -7,5 +7,5 @@ use Rattle.lb_balancer.proofs.Parted.{IsParted}
 use Rattle.lb_balancer.proofs.serving.unready_of.Given as goal
 
 abbrev pub invariant-loop-backend : goal.invariant-loop-backend
-invariant-loop-backend g l = (views : List ViewEvent) → IsViewAfter views l.view
-    → IsParted (IsJudged g.R.KeyRule.gives l.view l.registry) (membership_after views) l.unready.keys l.backend-iterator
+invariant-loop-backend g l = (views : List ViewEvent) → IsViewAfter views l.served.view
+    → IsParted (IsJudged g.R.KeyRule.gives l.served.view l.registry) (membership_after views) l.unready.keys l.backend-iterator

@@ -2,7 +2,7 @@
 use Rattle.std.proofs.Common.{◌∙◌, sym}
 use Rattle.lb_health_view.specs.RegistrySide.{settings_of}
 use Rattle.lb_threads_core.proofs.Histories.{later}
-use Rattle.lb_balancer.proofs.Memberships.{on-ok-more}
+use Rattle.lb_balancer_core.proofs.Memberships.{on-ok-more}
 use Rattle.lb_balancer.proofs.Refused.{none-renewed}
 use Rattle.lb_balancer.proofs.Renewals.{renewed_later}
 use Rattle.lb_balancer.proofs.Served.{known, of-registry, renewed}

@@ -6,7 +6,7 @@ use Rattle.lb_balancer.specs.History.{IsShownBy}
 use Rattle.lb_balancer.specs.Selections.{SelectsFrom}
 use Rattle.lb_balancer.specs.Shown.{ShownValue}
 use Rattle.lb_balancer.proofs.Kepts.{kept-of}
-use Rattle.lb_balancer.proofs.Memberships.{if-answered}
+use Rattle.lb_balancer_core.proofs.Memberships.{if-answered}
 use Rattle.lb_balancer.proofs.balancing.Balancing.select_in_lane.Goals as goal
 
 pub returns-clause-answers : goal.returns-clause-answers

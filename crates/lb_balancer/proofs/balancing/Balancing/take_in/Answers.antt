@@ -1,7 +1,8 @@
 -- What was discovered is what the renewal took.
 use Rattle.std.proofs.Common.{subst}
 use Rattle.lb_health_view.specs.RegistrySide.{settings_of}
-use Rattle.lb_balancer.specs.History.{TakesIn, UnderServing}
+use Rattle.lb_balancer_core.specs.ServedViews.{TakesIn}
+use Rattle.lb_balancer.specs.History.{UnderServing}
 use Rattle.lb_balancer.proofs.balancing.Balancing.take_in.Goals as goal
 
 pub returns-clause-taken : goal.returns-clause-taken

@@ -4,7 +4,7 @@ use Rattle.lb_rebuild_core.specs.GroupCalls.{AcceptsBy}
 use Rattle.lb_balancer.specs.History.{IsShownBy}
 use Rattle.lb_balancer.specs.Selections.{SelectsFrom}
 use Rattle.lb_balancer.specs.Shown.{ShownValue}
-use Rattle.lb_balancer.proofs.Memberships.{if-answered}
+use Rattle.lb_balancer_core.proofs.Memberships.{if-answered}
 use Rattle.lb_balancer.proofs.load_balancer.LoadBalancer.select_with.Goals as goal
 
 pub returns-clause-answers : goal.returns-clause-answers

@@ -1,7 +1,7 @@
 -- What is accepted is what is ready.
 use Rattle.lb_balancer.specs.Selections.{IsReadyIn}
 use Rattle.lb_balancer.proofs.Judged.{of-told}
-use Rattle.lb_balancer.proofs.Memberships.{on-ok-more}
+use Rattle.lb_balancer_core.proofs.Memberships.{on-ok-more}
 use Rattle.lb_balancer.proofs.reader.BalancerReader.select.Goals as goal
 
 pub returns-clause-answers : goal.returns-clause-answers

@@ -4,7 +4,7 @@ use Rattle.lb_rebuild_core.specs.GroupCalls.{AcceptsBy}
 use Rattle.lb_balancer.specs.History.{BalancerValue}
 use Rattle.lb_balancer.specs.Selections.{ReaderValue, SelectsFrom}
 use Rattle.lb_balancer.specs.Shown.{ShownValue}
-use Rattle.lb_balancer.proofs.Memberships.{if-answered}
+use Rattle.lb_balancer_core.proofs.Memberships.{if-answered}
 use Rattle.lb_balancer.proofs.reader.BalancerReader.select_with.Goals as goal
 
 pub returns-clause-answers : goal.returns-clause-answers

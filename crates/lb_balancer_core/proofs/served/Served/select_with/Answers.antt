@@ -1,5 +1,5 @@
 -- The walk is over the newest membership, and each backend is judged in it.
-use Rattle.std.proofs.Common.{◌∷◌, List, refl, sym, subst}
+use Rattle.std.proofs.Common.{◌∷◌, ◌∙◌, List, refl, sym, subst}
 use Rattle.std.specs.Arc.{arc_value}
 use Rattle.lb_select_base.specs.Backends.{Member, same_member}
 use Rattle.lb_select_base.specs.Draws.{CoreGives}
@@ -23,7 +23,7 @@ returns-clause-answers g c key_of events r e s =
     let gives = CoreGives {S = CoreWords g.row.G.Denot} (λ w. w.tickets) (λ w. g.G.Rng.stream w.generator) (λ w. load_in w.loads) in
     let accepts = AcceptsBy g.F.Fn c.args.accept.now (Judges key_of events e) in
     let walks = g.S.BackendSelection.walks in
-    let selector = arc_value c.self.inside.selector in
+    let selector = arc_value c.selector.result.now in
     let asked = asked-more gives (walks (g.S.BackendSelection.members selector) (g.S.BackendSelection.built_with selector) c.args.key.now)
     accepts c.args.max_iterations
     c.self.inside.words c.select.new.words c.select.result c.select.ensures
@@ -33,7 +33,7 @@ returns-clause-answers g c key_of events r e s =
     c.self.view_is
     (subst (λ config. Selects same_member accepts c.args.max_iterations gives (walks (members_now e) config c.args.key.now)
     c.self.inside.words c.select.result c.select.new.words)
-    c.self.invariant.0
+    (c.selector.ensures.config ∙ c.self.invariant.0)
     (subst (λ (ms : List Member). Selects same_member accepts c.args.max_iterations gives
     (walks ms (g.S.BackendSelection.built_with selector) c.args.key.now) c.self.inside.words c.select.result c.select.new.words)
-    here.members asked))
+    (c.selector.ensures.members ∙ here.members) asked))

@@ -1,5 +1,6 @@
 -- What an update leaves of a membership, and what holds of an answer that is none of a refusal.
 use Rattle.std.proofs.Common.{◌≡◌, ◌∙◌, Bool, true, false, ℕ, List, [], ◌∷◌, Result, Ok, Err, IfOk, OnOk, IsOk, refl, ap, subst}
+use Rattle.std.proofs.Common.{IfErr, OnErr}
 use Rattle.std.specs.Prelude.{if◌then◌else◌}
 use Rattle.std.specs.List.{list_any}
 use Rattle.std.proofs.lemmas.Bool.{false≢true}
@@ -14,6 +15,12 @@ on-ok (Err e) P is p = absurd (false≢true is)
 
 pub if-ok : {T E : Type 0} (r : Result T E) (t : T) (P : T → Type 0) → r ≡ Ok t → IfOk r P → P t
 if-ok r t P is p = subst (λ x. IfOk x P) is p
+
+pub if-err : {T E : Type 0} (r : Result T E) (e : E) (P : E → Type 0) → r ≡ Err e → IfErr r P → P e
+if-err r e P is p = subst (λ x. IfErr x P) is p
+
+pub on-err : {T E : Type 0} (r : Result T E) (e : E) (P : Type 0) → r ≡ Err e → OnErr r P → P
+on-err r e P is p = subst (λ x. OnErr x P) is p
 
 -- what holds anyway holds of an answer
 pub if-answered : {T E : Type 0} (r : Result T E) (P : Type 0) → P → OnOk r P
