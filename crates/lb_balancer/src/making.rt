@@ -41,10 +41,9 @@ impl<
     ///
     /// Those of `Static::try_from_iter`; then the cause for which no backends, or those that were found, make no selector; and
     /// `OutOfMemory` where memory is refused.
-    pub fn try_from_iter<'a, W: Wait, T: Net, I: Iterator<Item = &'a str> + Drop, K: MomentSource>(
+    pub fn try_from_iter<'a, W: Wait + Net, I: Iterator<Item = &'a str> + Drop, K: MomentSource>(
         rt: &W,
         alloc: Global,
-        net: &T,
         texts: I,
         clock: &mut K,
     ) -> Result<LoadBalancer<S, D, Rule<N>, C>, Refusal>
@@ -63,7 +62,7 @@ impl<
         let made: LoadBalancerCore<S, Pcg64, D> = LoadBalancerCore::try_from_iter(
             alloc,
             &mut registry,
-            net,
+            rt,
             texts,
             clock,
             generator,
