@@ -122,14 +122,8 @@ for said, quoted in zip(parts[::2], parts[1::2]):
 EOF
 }
 long_lines() { LC_ALL=C.UTF-8 grep -nE '.{141}' README.md docs/*.md || true; }
-# Files with a line or more of up to 155 columns, to be wrapped when their crates change next: each byte that changes in one proves all
-# crates above it anew.
-WIDE='lb_health_view/proofs/passes/run_health_check/Answers|lb_health_view/specs/Passes|lb_select/proofs/Indexing'
-WIDE+='|lb_select/proofs/index/Index/first_from/Answers|lb_select/proofs/ketama/KetamaHashing/(advance|start_of)/Answers'
-WIDE+='|lb_select/specs/PlacedSeen|lb_threads_core/specs/View|lb_threads_core/src/registry'
 long_source_lines() {
-    LC_ALL=C.UTF-8 grep -rnE '.{141}' crates/*/src crates/*/specs crates/*/proofs --include='*.rt' --include='*.antt' |
-        grep -vE "^crates/($WIDE)\." || true
+    LC_ALL=C.UTF-8 grep -rnE '.{141}' crates/*/src crates/*/specs crates/*/proofs --include='*.rt' --include='*.antt' || true
 }
 # Comments of items whose first words don't say what the item is or does.
 empty_beginnings() {

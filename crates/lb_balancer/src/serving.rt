@@ -48,6 +48,20 @@ impl<S: BackendSelection> Drop for BuiltSelector<S> {
     }
 }
 
+impl<S: BackendSelection> BuiltSelector<S> {
+    // The selector, its words, and those for the loads.
+    fn into_parts(self) -> (Arc<S>, Arc<SharedWords>, Option<Arc<LoadWords>>)
+        ensures { result.0 ≡ self.selector }
+    {
+        let BuiltSelector {
+            selector,
+            words,
+            loads,
+        } = self;
+        (selector, words, loads)
+    }
+}
+
 /// A view with the selector of its newest membership, as contracts see it, and the selector's words.
 pub struct Serving<S: BackendSelection> {
     served: ServedView<S>,
@@ -83,11 +97,7 @@ impl<S: BackendSelection> Serving<S> {
           config = S.built_with (arc_value built.selector);
         } }
     {
-        let BuiltSelector {
-            selector,
-            words,
-            loads,
-        } = built;
+        let (selector, words, loads) = built.into_parts();
         Serving {
             served: ServedView::new(view, selector),
             words,
@@ -204,11 +214,7 @@ impl<S: BackendSelection> Serving<S> {
         ensures config { self.new.config ≡ self.old.config }
         ensures one_registry { registry.new.id ≡ registry.old.id }
     {
-        let BuiltSelector {
-            selector,
-            words,
-            loads,
-        } = built;
+        let (selector, words, loads) = built.into_parts();
         let (selector, answer) = self
             .served
             .renew(alloc, registry, members, settings, selector);

@@ -1,7 +1,7 @@
 -- Views and table together after a change: the marks applied, one view's membership exchanged, and a refused change put back.
 use Rattle.std.proofs.Common.{◌≡◌, ◌<◌, ◌≤◌, ◌^◌, ℕ, zero, suc, inl, inr, Bool, true, false, cond, ◌||◌, List, [], ◌∷◌, map, length, filter}
-use Rattle.std.proofs.Common.{not, position, set, get_or, Some, Result, Ok, Err, IfOk, OnOk, ◌++◌, ◌+◌, refl, sym, ap, subst, ◌∙◌, nat_lt}
-use Rattle.std.proofs.Common.{length-append, take, ◌-◌, arith, ◌↔◌, IsTrue, true≢false, ⊎_elim}
+use Rattle.std.proofs.Common.{not, position, set, get_or, Some, Result, Ok, Err, IfOk, OnOk, OnErr, ◌++◌, ◌+◌, refl, sym, ap, subst, ◌∙◌}
+use Rattle.std.proofs.Common.{nat_lt, length-append, take, ◌-◌, arith, ◌↔◌, IsTrue, true≢false, ⊎_elim}
 use Rattle.std.proofs.lemmas.Bool.{cases_lt}
 use Rattle.std.proofs.lemmas.List.{map-append, take-append-le, take_all}
 use Rattle.std.proofs.lemmas.Option.{cond_some, same_Some, slice_get_read}
@@ -137,6 +137,11 @@ put_back (w ∷ items) (suc place) x y z at is = ap (λ vs. view_value w ∷ vs)
 pub if_ok : {A E : Type 0} {P Q : A → Type 0} (r : Result A E) → ((a : A) → P a → Q a) → IfOk r P → IfOk r Q
 if_ok (Ok a) f h = f a h
 if_ok (Err e) f h = tt
+
+-- a clause of a refused call, from its callee's
+pub if_refused : {A E : Type 0} {P Q : Type 0} (r : Result A E) → OnErr r P → (P → Q) → OnErr r Q
+if_refused (Ok x) h f = tt
+if_refused (Err e) h f = f h
 
 -- a clause of a call that went well, from two of its callee's
 pub on_both : {A E : Type 0} {P Q S : Type 0} (r : Result A E) → OnOk r P → OnOk r Q → (P → Q → S) → OnOk r S

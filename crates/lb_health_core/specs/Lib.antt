@@ -4,6 +4,7 @@ pub mod Fresh
 pub mod Internal
 pub mod Keys
 pub mod Registry
+pub mod RegistryCalls
 pub mod RegistryEvents
 pub mod Starts
 pub mod Table

@@ -1,7 +1,7 @@
 //! The registry of health: its views, and the cells that their targets share by health key. Contracts describe it by the history of its
 //! calls, newest first; a refused call leaves each history as it was, and applies no mark.
-ghost use Rattle.std.specs.Prelude.{◌≡◌, ◌≢◌, ◌↔◌, ◌+◌, ◌<◌, ◌≤◌, ◌^◌, ℕ, List, [], ◌∷◌, length, true, false, IsTrue, IfOk};
-ghost use Rattle.std.specs.Prelude.{OnOk, OnErr, IsOk, IsErrOf, Err, ◌++◌, ◌==◌, vec_len, vec_capacity};
+ghost use Rattle.std.specs.Prelude.{◌≡◌, ◌↔◌, ◌+◌, ◌<◌, ◌≤◌, ◌^◌, ℕ, List, [], ◌∷◌, length, true, false, IsTrue, IfOk};
+ghost use Rattle.std.specs.Prelude.{OnOk, OnErr, IsErrOf, Err, ◌++◌, ◌==◌, vec_len, vec_capacity};
 ghost use Rattle.std.specs.List.{filter_map, find};
 ghost use Rattle.std.specs.Option.{option_map};
 ghost use Rattle.lb_select_base.specs.Backends.{Member, member_cmp, same_member};
@@ -10,12 +10,12 @@ ghost use Rattle.lb_health_core.specs.Keys.{by_identity, by_address, IsRuleOf};
 ghost use Rattle.lb_health_core.specs.Registry.{HasOwnCells, IsRegistryAfter, target_at, targets_after};
 ghost use Rattle.lb_health_core.specs.Registry.{IsGrowthRefusal, HoldsOf, Grows, KeepsHistory};
 ghost use Rattle.lb_health_core.specs.Registry.{IsUpdateRefusal};
-ghost use Rattle.lb_health_core.specs.RegistryEvents.{Event, Registered, Applied, Updated, Marked, Observed, Released, Configured};
-ghost use Rattle.lb_health_core.specs.RegistryEvents.{has_view, registered_after, views_after, after_update, after_show};
-ghost use Rattle.lb_health_core.specs.RegistryEvents.{shown_cells, cells_given, cell_events, cell_health, IsCellKept};
+ghost use Rattle.lb_health_core.specs.RegistryCalls.{IsApplied, IsCellReady, IsObserved, IsRegistered, IsUpdated};
+ghost use Rattle.lb_health_core.specs.RegistryEvents.{Event, Applied, Updated, Marked, Released, Configured};
+ghost use Rattle.lb_health_core.specs.RegistryEvents.{has_view, registered_after, views_after, after_show};
+ghost use Rattle.lb_health_core.specs.RegistryEvents.{shown_cells, cells_given, cell_events};
 ghost use Rattle.lb_health_core.specs.Table.{table_value, IsTableAfter, IsPruned};
 ghost use Rattle.lb_health_core.specs.Targets.{live, target_keys};
-ghost use Rattle.lb_health_core.specs.Verdicts.{Verdict};
 
 use crate::change::{apply, is_same, place_of, replace};
 use crate::fresh::{is_taken, lacks_numbers};
@@ -140,11 +140,7 @@ impl<R: KeyRule + Drop> Registry<R> {
     /// `NumbersExhausted` where 18446744073709551615 views were registered, whatever memory is left; `OutOfMemory` where memory
     /// is refused.
     pub fn register_view(&mut self, alloc: Global) -> Result<u64, Refusal>
-        ensures ok { OnOk result (Grows R.gives self.old (λ events. Applied ∷ Registered ∷ events) self.new) }
-        ensures number { IfOk result (λ id. HoldsOf R.gives self.old (λ key_of events. id ≡ registered_after events + 1)) }
-        ensures err { OnErr result (KeepsHistory R.gives self.old self.new) }
-        ensures exhausted { HoldsOf R.gives self.old (λ key_of events. IsErrOf result Refusal.NumbersExhausted
-            ↔ (2 ^ 64 ≤ registered_after events + 1)) }
+        ensures registered { IsRegistered R.gives self.old result self.new }
         ensures refused { OnErr result (IsGrowthRefusal result) }
         ensures one { self.new.id ≡ self.old.id }
     {
@@ -239,12 +235,7 @@ impl<R: KeyRule + Drop> Registry<R> {
         id: u64,
         members: BTreeSet<Backend>,
     ) -> Result<(), Refusal>
-        ensures ok { OnOk result (Grows R.gives self.old (λ events. after_update id members.keys events) self.new) }
-        ensures err { OnErr result (KeepsHistory R.gives self.old self.new) }
-        ensures unknown { HoldsOf R.gives self.old (λ key_of events. IsErrOf result Refusal.NoSuch
-            ↔ (has_view id (views_after events) ≡ false)) }
-        ensures exhausted { HoldsOf R.gives self.old (λ key_of events. has_view id (views_after events) ≡ true
-            → (IsErrOf result Refusal.NumbersExhausted ↔ (2 ^ 64 ≤ cells_given key_of (after_update id members.keys events)))) }
+        ensures updated { IsUpdated R.gives self.old id members.keys result self.new }
         ensures refused { OnErr result (IsUpdateRefusal result) }
         ensures one { self.new.id ≡ self.old.id }
     {
@@ -356,13 +347,8 @@ impl<R: KeyRule + Drop> Registry<R> {
     ///
     /// `NoSuch` where the cell isn't kept.
     pub fn observe(&mut self, cell: u64, verdict: bool, threshold: usize) -> Result<bool, Refusal>
-        ensures after { OnOk result (Grows R.gives self.old (λ events. Observed cell
-            (record { ok = verdict; threshold = threshold }) ∷ events) self.new) }
-        ensures flipped { IfOk result (λ flipped. HoldsOf R.gives self.old (λ key_of events. IsTrue flipped
-            ↔ (cell_health key_of cell (Observed cell (record { ok = verdict; threshold = threshold }) ∷ events)
-            ≢ cell_health key_of cell events))) }
-        ensures kept { HoldsOf R.gives self.old (λ key_of events. IsOk result ↔ IsCellKept key_of cell events) }
-        ensures refused { OnErr result ((result ≡ Err Refusal.NoSuch) × (self.new ≡ self.old)) }
+        ensures observed { IsObserved R.gives self.old cell (record { ok = verdict; threshold = threshold }) result self.new }
+        ensures refused { OnErr result (result ≡ Err Refusal.NoSuch) }
         ensures one { self.new.id ≡ self.old.id }
     {
         self.table.observe(cell, verdict, threshold)
@@ -370,8 +356,7 @@ impl<R: KeyRule + Drop> Registry<R> {
 
     /// Returns whether a cell is kept and healthy, without taking memory.
     pub fn cell_ready(&self, cell: u64) -> bool
-        ensures { HoldsOf R.gives self.now (λ key_of events. IsTrue result ↔ (IsCellKept key_of cell events
-            × (cell_health key_of cell events ≡ true))) }
+        ensures { IsCellReady R.gives self.now cell result }
     {
         self.table.cell_ready(cell)
     }
@@ -384,12 +369,8 @@ impl<R: KeyRule + Drop> Registry<R> {
     ///
     /// `OutOfMemory` where memory is refused. Marks that are applied start no cell, so a number is always left.
     pub fn target_count(&mut self, alloc: Global) -> Result<usize, Refusal>
-        ensures ok { OnOk result (Grows R.gives self.old (λ events. Applied ∷ events) self.new) }
-        ensures count { IfOk result (λ count. HoldsOf R.gives self.old (λ key_of events. count
-            ≡ length (target_keys key_of (views_after (Applied ∷ events))))) }
-        ensures err { OnErr result (KeepsHistory R.gives self.old self.new) }
-        ensures exhausted { HoldsOf R.gives self.old (λ key_of events. IsErrOf result Refusal.NumbersExhausted
-            ↔ (2 ^ 64 ≤ cells_given key_of (Applied ∷ events))) }
+        ensures counted { IsApplied R.gives (λ key_of events count. count ≡ length (target_keys key_of (views_after events)))
+            self.old result self.new }
         ensures refused { OnErr result (IsGrowthRefusal result) }
         ensures one { self.new.id ≡ self.old.id }
     {
@@ -403,12 +384,8 @@ impl<R: KeyRule + Drop> Registry<R> {
     ///
     /// Those of `target_count`.
     pub fn targets(&mut self, alloc: Global) -> Result<Vec<Target>, Refusal>
-        ensures ok { OnOk result (Grows R.gives self.old (λ events. Applied ∷ events) self.new) }
-        ensures targets { IfOk result (λ targets. HoldsOf R.gives self.old (λ key_of events. targets.items
-            ≡ targets_after key_of (Applied ∷ events))) }
-        ensures err { OnErr result (KeepsHistory R.gives self.old self.new) }
-        ensures exhausted { HoldsOf R.gives self.old (λ key_of events. IsErrOf result Refusal.NumbersExhausted
-            ↔ (2 ^ 64 ≤ cells_given key_of (Applied ∷ events))) }
+        ensures listed { IsApplied R.gives (λ key_of events targets. targets.items ≡ targets_after key_of events)
+            self.old result self.new }
         ensures refused { OnErr result (IsGrowthRefusal result) }
         ensures one { self.new.id ≡ self.old.id }
     {

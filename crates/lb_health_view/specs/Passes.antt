@@ -34,9 +34,9 @@ Passes answers threshold (target ∷ targets) events after =
 abbrev pub AreKept : (Member → Member) → List Target → List Event → Type 0
 AreKept key_of targets events = Each (λ t. IsCellKept key_of t.cell events) targets
 
--- A pass over a registry, from its state before to that after, by what the check may answer and by its thresholds: the marks that wait were
--- applied, and then the cell of each target was reached; or the pass was refused, exactly where no number is left for a cell or where memory
--- is refused, and the registry has the history of before.
+-- A pass over a registry, from its state before to that after, by what the check may answer and by its thresholds: the marks that wait
+-- were applied, and then the cell of each target was reached; or the pass was refused, exactly where no number is left for a cell or where
+-- memory is refused, and the registry has the history of before.
 pub record IsPassed {R : Type 0} (gives : R → Member → Member → Type 0) (answers : Answers) (threshold : Bool → ℕ)
     (before : RegistryValue R) (result : Result Unit Refusal) (after : RegistryValue R) : Type 0 where
   pub ok : OnOk result (HoldsOf gives before (λ key_of events. (later : List Event)

@@ -130,8 +130,9 @@ left_by entries shift place first end starts h begins whole ends last =
     ]
 
 -- the start of one bucket more
-pub begun_more : {T : Type 0} (entries : List (ℕ × T)) (shift bucket at now : ℕ) (starts new : List ℕ) → IsBegun entries shift bucket at starts
-    → BeginsAt shift entries bucket now → new ≡ starts ++ now ∷ [] → IsBegun entries shift (bucket + 1) now new
+pub begun_more : {T : Type 0} (entries : List (ℕ × T)) (shift bucket at now : ℕ) (starts new : List ℕ)
+    → IsBegun entries shift bucket at starts → BeginsAt shift entries bucket now → new ≡ starts ++ now ∷ []
+    → IsBegun entries shift (bucket + 1) now new
 begun_more entries shift bucket at now starts new h b e = record {
   within = b.within;
   below = λ k d low high. let l : bucket_of shift (point_of (get_or entries k d)) < bucket = b.below k d low high in omega (arith, l);
@@ -163,8 +164,8 @@ begun_none entries shift starts e = record {
 }
 
 -- when the last bucket has its start, each place has a bucket
-pub begun_all : {T : Type 0} (entries : List (ℕ × T)) (shift bucket at : ℕ) (starts : List ℕ) → IsBegun entries shift bucket at starts → shift < 32
-    → bucket ≡ (2 ^ 32 - 1) / 2 ^ shift + 1 → IsIndexOf entries shift starts
+pub begun_all : {T : Type 0} (entries : List (ℕ × T)) (shift bucket at : ℕ) (starts : List ℕ)
+    → IsBegun entries shift bucket at starts → shift < 32 → bucket ≡ (2 ^ 32 - 1) / 2 ^ shift + 1 → IsIndexOf entries shift starts
 begun_all entries shift bucket at starts h few all = record {
   known = record { few = few; begins = h.begins };
   all = λ place low. let l : bucket_of shift place ≤ (2 ^ 32 - 1) / 2 ^ shift = shr_mono shift (omega (arith, low))

@@ -5,7 +5,12 @@ use Rattle.lb_select.specs.declared.ketama.KetamaHashing.TheInside.{Inside}
 
 -- its backends, owners and points, and the multiple that it ignores
 abbrev pub placed_seen : Inside → Placed
-placed_seen r = record { members = r.backends.items; owners = r.owners.items; points = r.points.entries.items; multiple = r.config.point_multiple }
+placed_seen r = record {
+  members = r.backends.items;
+  owners = r.owners.items;
+  points = r.points.entries.items;
+  multiple = r.config.point_multiple;
+}
 
 -- its points are those of its backends, and the index is theirs
 pub record IsPlacedSeen (r : Inside) : Type 0 where

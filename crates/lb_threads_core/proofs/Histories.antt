@@ -43,10 +43,6 @@ changed key_of id members views events =
     (Held id (generation_after views + 1) ∷ Updated id members ∷ Applied ∷ events)
     (one_more (Held id (generation_after views + 1)) (one_more (Updated id members) (one_more Applied (no_more events)))))
 
-pub same_if_err : {A V : Type 0} (r : Result A Refusal) (e : Refusal) (x y : V) → OnErr r ((r ≡ Err e) × (y ≡ x)) → OnErr r (y ≡ x)
-same_if_err (Ok a) e x y err = err
-same_if_err (Err a) e x y err = err.1
-
 module _ {R : Type 0} {gives : R → Member → Member → Type 0} where
   -- what lengthens each history leaves the registry
   pub lengthened : {x y : RegistryValue R} (grow : (Member → Member) → List Event → List Event)

@@ -70,7 +70,8 @@ module _ {R : Type 0} (gives : R → Member → Member → Type 0) where
   pub record Takes (members : List Member) (settings : List (Member × Bool)) (v : ViewValue) (x : RegistryValue R) (w : ViewValue)
       (y : RegistryValue R) : Type 0 where
     pub view : HoldsOfBoth gives v x (λ key_of views events. IsViewAfter (view_updated key_of v.id members settings events views) w)
-    pub registry : HoldsOfBoth gives v x (λ key_of views events. IsRegistryAfter gives key_of (registry_updated key_of v.id members views events) y)
+    pub registry : HoldsOfBoth gives v x (λ key_of views events. IsRegistryAfter gives key_of
+        (registry_updated key_of v.id members views events) y)
 
   -- a view and its registry after a refused call: as before
   pub record Keeps (v : ViewValue) (x : RegistryValue R) (w : ViewValue) (y : RegistryValue R) : Type 0 where

@@ -5,14 +5,14 @@ ghost use Rattle.std.specs.Arc.{arc_value};
 ghost use Rattle.lb_health_core.specs.declared.error.CheckError.{CheckError};
 ghost use Rattle.lb_health_core.specs.Registry.{Grows, HoldsOf, IsGrowthRefusal, IsUpdateRefusal, targets_after};
 ghost use Rattle.lb_health_core.specs.RegistryEvents.{Marked, registered_after, views_after};
+ghost use Rattle.lb_health_core.specs.RegistryCalls.{IsApplied, IsCellReady, IsObserved, IsRegistered, IsUpdated};
 ghost use Rattle.lb_health_core.specs.Targets.{target_keys};
 ghost use Rattle.lb_health_core.specs.Verdicts.{Verdict};
 ghost use Rattle.lb_health_core.specs.RegistryEvents.{Configured};
 ghost use Rattle.lb_health_view.specs.Passes.{verdict_of};
 ghost use Rattle.lb_select_base.specs.declared.refusal.Refusal.{Refusal};
 ghost use Rattle.lb_threads_core.specs.Internal.Leaving.{EndsSnapshots, HaveLeft, IsNoteOf};
-ghost use Rattle.lb_threads_core.specs.Registry.{IsApplied, IsCellReady, IsObserved, IsRegistered, IsRegistryOf, IsUpdated};
-ghost use Rattle.lb_threads_core.specs.Registry.{SeenIn, UnderRegistry};
+ghost use Rattle.lb_threads_core.specs.Registry.{IsRegistryOf, SeenIn, UnderRegistry};
 
 use crate::keyed::NoRule;
 use crate::lock::{KeyedLock, TakenValue};
@@ -294,7 +294,8 @@ impl<R: KeyRule + Drop, C: HealthCheck + Drop> HealthRegistry<R, C> {
 
     /// Returns whether no number is left for one more view, without taking memory.
     pub fn is_full<W: Wait>(&self, rt: &W) -> bool
-        ensures { SeenIn R.gives self.now.start (λ x. HoldsOf R.gives x (λ _ events. IsTrue result ↔ (2 ^ 64 ≤ registered_after events + 1))) }
+        ensures { SeenIn R.gives self.now.start (λ x. HoldsOf R.gives x (λ _ events. IsTrue result
+            ↔ (2 ^ 64 ≤ registered_after events + 1))) }
     {
         let held = self.take(rt);
         let is_full = held.value.is_full();

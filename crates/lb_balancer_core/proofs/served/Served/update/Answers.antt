@@ -11,8 +11,8 @@ use Rattle.lb_balancer_core.proofs.Balancing.{stands-same, stands-other, refused
 use Rattle.lb_balancer_core.proofs.Memberships.{if-err, on-err, on-ok}
 use Rattle.lb_balancer_core.proofs.served.Served.update.Goals as goal
 
-pub invariant_of-self-then-is_membership : goal.invariant_of-self-then-is_membership
-invariant_of-self-then-is_membership g c =
+pub invariant_of-self : goal.invariant_of-self
+invariant_of-self g c =
     let p = c.self.invariant in
     let e = p.1.0 in
     let members = c.args.members.keys in
@@ -61,7 +61,7 @@ returns-in_err-selector-clause-updated g c key_of events r e s =
     let refusal = c.in_err-selector.field-0.0 in
     let same : same_members members (members_now e) ≡ false = ap (same_members members) (sym here.members)
     ∙ (sym c.is_membership.ensures ∙ c.if-is_membership.false) in
-    let is : c.from_residual-in_err-selector.result ≡ Err refusal = search rules in
+    let is : c.from_residual.result ≡ Err refusal = search rules in
     rw is (subst (λ (v : ServedValue g.row.S-Config.Denot g.row.G.Denot).
     (update_cause (g.S.BackendSelection.refusal members v.config) key_of v.view.id members events e ≡ Some refusal)
     ⊎ ((update_cause (g.S.BackendSelection.refusal members v.config) key_of v.view.id members events e ≡ None) × (refusal ≡ OutOfMemory)))

@@ -1,4 +1,4 @@
-use Rattle.std.proofs.Common.{List, ◌∷◌, map}
+use Rattle.std.proofs.Common.{List, ◌∷◌, ◌∙◌, map}
 use Rattle.lb_select_base.specs.Backends.{Member, member_cmp}
 use Rattle.lb_health_core.specs.CellEvents as cell
 use Rattle.lb_health_core.specs.Registry.{IsRegistryAfter}
@@ -6,11 +6,11 @@ use Rattle.lb_health_core.specs.RegistryEvents.{Event, Observed, cell_events}
 use Rattle.lb_health_core.specs.Table.{table_value, IsTableAfter, IsPruned}
 use Rattle.lb_health_core.specs.Targets.{view_value}
 use Rattle.lb_health_core.specs.Verdicts.{Verdict}
-use Rattle.lb_health_core.proofs.StateLemmas.{if_ok, on_both, seen}
+use Rattle.lb_health_core.proofs.StateLemmas.{if_ok, if_refused, on_both, seen}
 use Rattle.lb_health_core.proofs.registry.Registry.observe.Goals as goal
 
-pub returns-clause-after : goal.returns-clause-after
-returns-clause-after g c =
+pub returns-clause-observed : goal.returns-clause-observed
+returns-clause-observed g c =
     let v : Verdict = record { ok = c.args.verdict; threshold = c.args.threshold } in
     let inside = c.self.inside in
     let step :
@@ -41,11 +41,23 @@ returns-clause-after g c =
         pruned = only (cell_events key_of events) now.state.pruned;
       };
     } in
-    on_both c.observe.result c.observe.ensures.after c.observe.ensures.pruned step
-
-pub returns-clause-flipped : goal.returns-clause-flipped
-returns-clause-flipped g c =
-    if_ok c.observe.result
-    (λ flipped told key_of events r.
-    let now = seen g.R.KeyRule.gives key_of events _ _ c.self.view_is r in
-    told (cell_events key_of events) now.state.cells now.state.pruned) c.observe.ensures.flipped
+    record {
+      ok = on_both c.observe.result c.observe.ensures.after c.observe.ensures.pruned step;
+      flipped = if_ok c.observe.result
+          (λ flipped told key_of events r.
+          let now = seen g.R.KeyRule.gives key_of events _ _ c.self.view_is r in
+          told (cell_events key_of events) now.state.cells now.state.pruned) c.observe.ensures.flipped;
+      kept = λ key_of events r.
+          let now = seen g.R.KeyRule.gives key_of events _ _ c.self.view_is r in
+          c.observe.ensures.kept (cell_events key_of events) now.state.cells now.state.pruned;
+      err = if_refused c.observe.result c.observe.ensures.refused
+          (λ told.
+          (λ i. record {
+            id = inside.id;
+            rule = inside.rule;
+            views = map view_value inside.views.items;
+            registered = inside.registered;
+            table = table_value (told.1 i);
+          })
+          ∙ c.self.view_is);
+    }

@@ -6,7 +6,8 @@ use Rattle.lb_select.proofs.ketama.KetamaHashing.advance.Goals as goal
 pub index-requires-2 : goal.index-requires-2
 index-requires-2 c =
     let inside : c.index.result.now.1 < length c.self.inside.owners.items
-    = owner_inside (placed_seen c.self.inside) c.self.invariant.placed c.in_ok-at.at c.index.result.now c.in_ok-at.ensures.0 c.index.ensures in
+    = owner_inside (placed_seen c.self.inside) c.self.invariant.placed c.in_ok-at.at c.index.result.now c.in_ok-at.ensures.0
+    c.index.ensures in
     omega (arith, inside, c.self.inside.owners.ok.0)
 
 pub returns : goal.returns

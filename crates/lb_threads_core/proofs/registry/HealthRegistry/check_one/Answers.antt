@@ -2,7 +2,8 @@ use Rattle.std.proofs.Common.{◌≡◌, ℕ, Bool, Result, is_ok, ap, ◌∙◌
 use Rattle.lb_health_core.specs.declared.error.CheckError.{CheckError}
 use Rattle.lb_health_core.specs.Verdicts.{Verdict}
 use Rattle.lb_health_view.specs.Passes.{verdict_of}
-use Rattle.lb_threads_core.specs.Registry.{IsObserved, UnderRegistry}
+use Rattle.lb_health_core.specs.RegistryCalls.{IsObserved}
+use Rattle.lb_threads_core.specs.Registry.{UnderRegistry}
 use Rattle.lb_threads_core.proofs.registry.HealthRegistry.check_one.Goals as goal
 
 abbrev verdict : Bool → ℕ → Verdict

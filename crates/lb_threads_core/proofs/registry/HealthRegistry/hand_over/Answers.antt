@@ -1,20 +1,17 @@
 -- A verdict that reaches its cell is one event more.
-use Rattle.lb_select_base.specs.declared.refusal.Refusal.TheVariants.{NoSuch}
 use Rattle.lb_health_core.specs.RegistryEvents.{Observed}
-use Rattle.lb_threads_core.proofs.Histories.{added_or_same, later, same_if_err}
+use Rattle.lb_threads_core.proofs.Histories.{added_or_same, later}
 use Rattle.lb_threads_core.proofs.registry.HealthRegistry.hand_over.Goals as goal
 
 pub put-requires-clause-registry : goal.put-requires-clause-registry
 put-requires-clause-registry g c =
-    let is = c.observe-answer.ensures in
+    let is = c.observe-answer.ensures.observed in
     later c.take-held.ensures.registry (added_or_same c.observe-answer.result
-    (Observed c.args.cell (record { ok = c.args.verdict; threshold = c.args.threshold })) is.after
-    (same_if_err c.observe-answer.result NoSuch c.take-held.result.value c.observe-answer.new.self is.refused))
+    (Observed c.args.cell (record { ok = c.args.verdict; threshold = c.args.threshold })) is.ok is.err)
 
 pub returns-clause-observed : goal.returns-clause-observed
 returns-clause-observed g c =
-    let is = c.observe-answer.ensures in
-    let same = same_if_err c.observe-answer.result NoSuch c.take-held.result.value c.observe-answer.new.self is.refused in (
+    let is = c.observe-answer.ensures.observed in (
       c.take-held.result.value,
       (
         c.observe-answer.new.self,
@@ -22,8 +19,8 @@ returns-clause-observed g c =
           c.take-held.ensures.registry,
           (
             added_or_same c.observe-answer.result (Observed c.args.cell (record { ok = c.args.verdict; threshold = c.args.threshold }))
-                is.after same,
-            record { ok = is.after; flipped = is.flipped; kept = is.kept; err = same },
+                is.ok is.err,
+            is,
           ),
         ),
       ),

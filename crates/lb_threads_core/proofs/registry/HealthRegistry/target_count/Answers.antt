@@ -5,21 +5,18 @@ use Rattle.lb_threads_core.proofs.registry.HealthRegistry.target_count.Goals as 
 
 pub put-requires-clause-registry : goal.put-requires-clause-registry
 put-requires-clause-registry g c =
-    let is = c.target_count-told.ensures in
+    let is = c.target_count-told.ensures.counted in
     later c.take-held.ensures.registry (added c.target_count-told.result Applied is.ok is.err)
 
 pub returns-clause-counted : goal.returns-clause-counted
 returns-clause-counted g c =
-    let is = c.target_count-told.ensures in (
+    let is = c.target_count-told.ensures.counted in (
       c.take-held.result.value,
       (
         c.target_count-told.new.self,
         (
           c.take-held.ensures.registry,
-          (
-            added c.target_count-told.result Applied is.ok is.err,
-            record { ok = is.ok; answers = is.count; err = is.err; exhausted = is.exhausted },
-          ),
+          (added c.target_count-told.result Applied is.ok is.err, is),
         ),
       ),
     )

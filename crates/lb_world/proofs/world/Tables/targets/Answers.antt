@@ -10,11 +10,11 @@ returns-then-registry-len g c =
 pub returns-in-Ok : goal.returns-in-Ok
 returns-in-Ok g c =
     let at = at-place c.args.self.now.registries.items c.args.registry _ (omega arith) c.index_mut-at.ensures.value in
-    λ h s. targets-next s _ _ _ _ at c.targets.ensures.one c.in-Ok.ensures.ok c.in-Ok.ensures.targets
+    λ h s. targets-next s _ _ _ _ at c.targets.ensures.one c.in-Ok.ensures.listed.ok c.in-Ok.ensures.listed.answers
 
 pub returns-in-Err : goal.returns-in-Err
 returns-in-Err g c =
     let at = at-place c.args.self.now.registries.items c.args.registry _ (omega arith) c.index_mut-at.ensures.value in
     λ h s.
-    targets-refused s _ _ _ _ at c.targets.ensures.one c.in-Err.ensures.err (growth-told _ c.in-Err.ensures.refused)
-    (λ k es now is. (c.in-Err.ensures.exhausted k es now).0 (ap Err is))
+    targets-refused s _ _ _ _ at c.targets.ensures.one c.in-Err.ensures.listed.err (growth-told _ c.in-Err.ensures.refused)
+    (λ k es now is. (c.in-Err.ensures.listed.exhausted k es now).0 (ap Err is))

@@ -13,12 +13,12 @@ pub returns-in-Ok : goal.returns-in-Ok
 returns-in-Ok g c =
     let at = at-place c.args.self.now.registries.items c.args.registry _ (omega arith) c.index_mut-at.ensures.value in
     λ h s.
-    verdict-next s _ _ _ _ _ _ _ at c.observe.ensures.one c.in-Ok.ensures.after c.in-Ok.ensures.flipped
-    (λ k es now. (c.in-Ok.ensures.kept k es now).0 refl)
+    verdict-next s _ _ _ _ _ _ _ at c.observe.ensures.one c.in-Ok.ensures.observed.ok c.in-Ok.ensures.observed.flipped
+    (λ k es now. (c.in-Ok.ensures.observed.kept k es now).0 refl)
 
 pub returns-in-Err : goal.returns-in-Err
 returns-in-Err g c =
     let at = at-place c.args.self.now.registries.items c.args.registry _ (omega arith) c.index_mut-at.ensures.value in
-    rw (refused-so c.in-Err.ensures.refused.0)
-    (λ h s. verdict-refused s _ _ _ _ _ _ at c.in-Err.ensures.refused.1
-    (λ k es now kept. false≢true ((c.in-Err.ensures.kept k es now).1 kept)))
+    rw (refused-so c.in-Err.ensures.refused)
+    (λ h s. verdict-refused s _ _ _ _ _ _ at c.in-Err.ensures.observed.err
+    (λ k es now kept. false≢true ((c.in-Err.ensures.observed.kept k es now).1 kept)))
