@@ -1,6 +1,6 @@
 //! What a balancer serves, as a plain value: a view with the selector of its newest membership, and the selector's words. Each call is
 //! made under a lock; nothing is built and nothing is dropped here.
-ghost use Rattle.std.specs.Prelude.{◌≡◌, ◌⊎◌, List, ◌∷◌, IfOk, IfErr, OnOk, OnErr, Err, Bool, true, not, unwrap_or};
+ghost use Rattle.std.specs.Prelude.{◌≡◌, ◌⊎◌, List, ◌∷◌, IfOk, IfErr, OnOk, OnErr, Err, true, unwrap_or};
 ghost use Rattle.std.specs.Arc.{arc_value};
 ghost use Rattle.lb_select_base.specs.Memberships.{same_members};
 ghost use Rattle.lb_select_base.specs.Refusals.{Refuses};
@@ -306,6 +306,8 @@ impl<S: BackendSelection> Serving<S> {
         ensures config { IfOk result (λ s. s.config ≡ self.now.config) }
         ensures refused { IfErr result (λ e. e ≡ Refusal.OutOfMemory) }
     {
+        // For the prover alone: it does nothing at run time.
+        self.served.founded();
         Ok(Shown {
             generation: self.served.generation(),
             members: self.served.get_backend()?,

@@ -1,6 +1,6 @@
 -- Why view and registry refuse a membership: the least cause that applies, and memory only where none does.
-use Rattle.std.proofs.Common.{◌≡◌, ◌⊎◌, inl, inr, ◌∙◌, ◌+◌, ◌^◌, ◌≤◌, ℕ, Bool, true, false, not, List, ◌∷◌, Some, None, Result}
-use Rattle.std.proofs.Common.{Ok, Err, IsErrOf, IfErr, OnErr, IsOk, refl, sym, subst, arith, unwrap_or}
+use Rattle.std.proofs.Common.{◌≡◌, inl, inr, ◌∙◌, ◌+◌, ◌^◌, ◌≤◌, ℕ, Bool, true, false, not, List, ◌∷◌, Some, None, Result}
+use Rattle.std.proofs.Common.{Err, IsErrOf, OnErr, IsOk, refl, sym, subst, arith, unwrap_or}
 use Rattle.std.specs.Prelude.{◌≢◌, ◌==◌, if◌then◌else◌, nat_le}
 use Rattle.std.proofs.lemmas.Bool.{false≢true, eq-eqb}
 use Rattle.std.proofs.lemmas.Bool.Decides.{nat_tests}

@@ -109,6 +109,7 @@ impl<S: BackendSelection> ServedView<S> {
     pub fn get_backend(&self) -> Result<Arc<BTreeSet<Backend>>, Refusal>
         ensures members { IfOk result (λ set. (views : List ViewEvent) → IsViewAfter views self.now.view
             → (arc_value set).keys ≡ membership_after views) }
+        ensures newest { IfOk result (λ set. (arc_value set).keys ≡ self.now.members) }
         ensures refused { OnErr result (result ≡ Err Refusal.OutOfMemory) }
     {
         self.view.get_backend()
