@@ -21,15 +21,16 @@ returns-in_err-made-clause-refused g c =
 
 pub begun-requires : goal.begun-requires
 begun-requires g c =
+    let Seen = ServedViewValue g.row.S-Config.Denot in
     let told = c.in_ok-made.ensures.made in
     let taken = told.2.taken in
     let stands = told.2.stands by_identity [] (c.with_rule-registry.ensures by_identity (λ b k h. h)) in
     let same = c.in_ok-serving.ensures.same ∙ c.into_parts.ensures.served in
     let views = view_updated by_identity 1 taken.members [] (one_more []) [] in
     let view : IsViewAfter views c.in_ok-serving.serving.view =
-    subst (λ v. IsViewAfter views v) (sym (ap (λ (s : ServedViewValue g.row.S-Config.Denot). s.view) same)) (first-view taken.members _ stands) in
+    subst (λ v. IsViewAfter views v) (sym (ap (λ (s : Seen). s.view) same)) (first-view taken.members _ stands) in
     record {
-      config = ap (λ (s : ServedViewValue g.row.S-Config.Denot). s.config) same ∙ c.in_ok-made.ensures.parts.0;
+      config = ap (λ (s : Seen). s.config) same ∙ c.in_ok-made.ensures.parts.0;
       views = views;
       view = view;
       first = let is = c.generation.ensures _ view in omega (arith, is);
@@ -40,13 +41,14 @@ begun-requires g c =
 
 pub returns-clause-made : goal.returns-clause-made
 returns-clause-made g c =
+    let Seen = ServedViewValue g.row.S-Config.Denot in
     let Balancer = BalancerValue g.row.D.Denot g.row.S-Config.Denot (Rule g.row.N.Denot) in
     let told = c.in_ok-made.ensures.made in
     let new = c.with_rule-registry.ensures by_identity (λ b k h. h) in
     let taken = told.2.taken in
     let views = view_updated by_identity 1 taken.members [] (one_more []) [] in
     let view : IsViewAfter views c.in_ok-serving.serving.view =
-    subst (λ v. IsViewAfter views v) (sym (ap (λ (s : ServedViewValue g.row.S-Config.Denot). s.view)
+    subst (λ v. IsViewAfter views v) (sym (ap (λ (s : Seen). s.view)
     (c.in_ok-serving.ensures.same ∙ c.into_parts.ensures.served)))
     (first-view taken.members _ (told.2.stands by_identity [] new)) in
     let first = c.generation.ensures _ view ∙ first-generation taken.members in (
