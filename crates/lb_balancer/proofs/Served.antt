@@ -14,7 +14,7 @@ use Rattle.lb_health_view.specs.declared.discovery.DiscoverySource.TheVariants a
 use Rattle.lb_health_view.specs.RegistrySide.{after_settings, view_updated, with_membership}
 use Rattle.lb_health_view.specs.ViewEvents.{ViewEvent, Set, Shown, generation_after, membership_after}
 use Rattle.lb_health_view.specs.Views.{IsViewAfter}
-use Rattle.lb_balancer_core.specs.Balancer.{IsJudged, ServedValue, Stands, updated}
+use Rattle.lb_balancer_core.specs.Balancer.{IsJudged, ServedValue, Stands, updated as after-update}
 use Rattle.lb_balancer_core.specs.ServedViews.{ServedViewValue, Takes}
 use Rattle.lb_balancer_core.specs.Texts.{one_more}
 use Rattle.lb_balancer_core.proofs.Balancing.{view-is}
@@ -174,7 +174,7 @@ first-discovered d members false other found =
     rw other (record { none = (λ none. absurd (omega (arith, none))); some = (λ some. ∣ ([], found) ∣₁) })
 
 -- what a plain balancer serves of texts that were taken in a registry without views
-pub first-view : {C G : Type 0} (members : List Member) (v : ServedValue C G) → Stands (updated by_identity 1 members [] (one_more []) []) v
+pub first-view : {C G : Type 0} (members : List Member) (v : ServedValue C G) → Stands (after-update by_identity 1 members [] (one_more []) []) v
     → IsViewAfter (view_updated by_identity 1 members [] (one_more []) []) v.view
 first-view members v s =
     subst (λ vs. IsViewAfter vs v.view) (view-is [] members (shown_cells by_identity 1 members (one_more [])) []) s.view

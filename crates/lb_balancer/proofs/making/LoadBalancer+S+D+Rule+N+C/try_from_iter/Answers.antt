@@ -1,6 +1,7 @@
 -- What the plain balancer took in the new registry is what the shared one is made of.
 use Rattle.std.proofs.Common.{◌≡◌, ◌∙◌, [], Err, ap, arith, refl, rules, subst, sym}
 use Rattle.lb_select_base.specs.Memberships.{same_members}
+use Rattle.lb_select_base.specs.declared.refusal.Refusal.TheVariants.{OutOfMemory}
 use Rattle.lb_health_core.specs.Keys.{by_identity, rule_gives}
 use Rattle.lb_health_core.specs.declared.keys.Rule.{Rule}
 use Rattle.lb_health_view.specs.RegistrySide.{view_updated}
@@ -16,8 +17,56 @@ pub returns-in_err-made-clause-refused : goal.returns-in_err-made-clause-refused
 returns-in_err-made-clause-refused g c =
     let told = c.in_err-made.ensures.refused in
     let e = c.in_err-made.field-0.0 in
-    let is : c.from_residual-in_err-made.result ≡ Err e = search rules in
-    rw is (told.0, told.1, (c.with_rule-registry.result, (c.with_rule-registry.ensures by_identity (λ b k h. h), told.2)))
+    let is : c.from_residual.result ≡ Err e = search rules in
+    rw is (told.0, told.1, (c.with_rule-registry.result, c.with_rule-registry.ensures by_identity (λ b k h. h), told.2))
+
+pub returns-in_err-serving-clause-refused : goal.returns-in_err-serving-clause-refused
+returns-in_err-serving-clause-refused g c =
+    let told = c.in_ok-made.ensures.made in
+    let is : c.from_residual-in_err-serving.result ≡ Err OutOfMemory = search rules in
+    rw is (
+      told.0,
+      told.1,
+      for-memory (rule_gives g.N.KeyRule.gives) c.with_rule-registry.result
+          (c.with_rule-registry.ensures by_identity (λ b k h. h)) told.0
+          (λ members. g.S.BackendSelection.refusal members g.S.BackendSelection.default_config) OutOfMemory refl,
+    )
+
+pub returns-in_err-over-clause-refused : goal.returns-in_err-over-clause-refused
+returns-in_err-over-clause-refused g c =
+    let told = c.in_ok-made.ensures.made in
+    let is : c.from_residual-in_err-over.result ≡ Err OutOfMemory = search rules in
+    rw is (
+      told.0,
+      told.1,
+      for-memory (rule_gives g.N.KeyRule.gives) c.with_rule-registry.result
+          (c.with_rule-registry.ensures by_identity (λ b k h. h)) told.0
+          (λ members. g.S.BackendSelection.refusal members g.S.BackendSelection.default_config) OutOfMemory refl,
+    )
+
+pub returns-in_err-new-clause-refused : goal.returns-in_err-new-clause-refused
+returns-in_err-new-clause-refused g c =
+    let told = c.in_ok-made.ensures.made in
+    let is : c.from_residual-in_err-new.result ≡ Err OutOfMemory = search rules in
+    rw is (
+      told.0,
+      told.1,
+      for-memory (rule_gives g.N.KeyRule.gives) c.with_rule-registry.result
+          (c.with_rule-registry.ensures by_identity (λ b k h. h)) told.0
+          (λ members. g.S.BackendSelection.refusal members g.S.BackendSelection.default_config) OutOfMemory refl,
+    )
+
+pub returns-in_err-shared-clause-refused : goal.returns-in_err-shared-clause-refused
+returns-in_err-shared-clause-refused g c =
+    let told = c.in_ok-made.ensures.made in
+    let is : c.from_residual-in_err-shared.result ≡ Err OutOfMemory = search rules in
+    rw is (
+      told.0,
+      told.1,
+      for-memory (rule_gives g.N.KeyRule.gives) c.with_rule-registry.result
+          (c.with_rule-registry.ensures by_identity (λ b k h. h)) told.0
+          (λ members. g.S.BackendSelection.refusal members g.S.BackendSelection.default_config) OutOfMemory refl,
+    )
 
 pub begun-requires : goal.begun-requires
 begun-requires g c =
@@ -25,7 +74,7 @@ begun-requires g c =
     let told = c.in_ok-made.ensures.made in
     let taken = told.2.taken in
     let stands = told.2.stands by_identity [] (c.with_rule-registry.ensures by_identity (λ b k h. h)) in
-    let same = c.in_ok-serving.ensures.same ∙ c.into_parts.ensures.served in
+    let same = c.in_ok-serving.ensures.same ∙ c.into_parts-served.ensures.served in
     let views = view_updated by_identity 1 taken.members [] (one_more []) [] in
     let view : IsViewAfter views c.in_ok-serving.serving.view =
     subst (λ v. IsViewAfter views v) (sym (ap (λ (s : Seen). s.view) same)) (first-view taken.members _ stands) in
@@ -49,7 +98,7 @@ returns-clause-made g c =
     let views = view_updated by_identity 1 taken.members [] (one_more []) [] in
     let view : IsViewAfter views c.in_ok-serving.serving.view =
     subst (λ v. IsViewAfter views v) (sym (ap (λ (s : Seen). s.view)
-    (c.in_ok-serving.ensures.same ∙ c.into_parts.ensures.served)))
+    (c.in_ok-serving.ensures.same ∙ c.into_parts-served.ensures.served)))
     (first-view taken.members _ (told.2.stands by_identity [] new)) in
     let first = c.generation.ensures _ view ∙ first-generation taken.members in (
       told.0,
