@@ -174,7 +174,8 @@ first-discovered d members false other found =
     rw other (record { none = (λ none. absurd (omega (arith, none))); some = (λ some. ∣ ([], found) ∣₁) })
 
 -- what a plain balancer serves of texts that were taken in a registry without views
-pub first-view : {C G : Type 0} (members : List Member) (v : ServedValue C G) → Stands (after-update by_identity 1 members [] (one_more []) []) v
+pub first-view : {C G : Type 0} (members : List Member) (v : ServedValue C G)
+    → Stands (after-update by_identity 1 members [] (one_more []) []) v
     → IsViewAfter (view_updated by_identity 1 members [] (one_more []) []) v.view
 first-view members v s =
     subst (λ vs. IsViewAfter vs v.view) (view-is [] members (shown_cells by_identity 1 members (one_more [])) []) s.view
