@@ -1,4 +1,3 @@
-mod FirstViews
 mod Judged
 mod Kepts
 mod OfTexts

@@ -14,11 +14,12 @@ use Rattle.lb_health_view.specs.declared.discovery.DiscoverySource.TheVariants a
 use Rattle.lb_health_view.specs.RegistrySide.{after_settings, view_updated, with_membership}
 use Rattle.lb_health_view.specs.ViewEvents.{ViewEvent, Set, Shown, generation_after, membership_after}
 use Rattle.lb_health_view.specs.Views.{IsViewAfter}
-use Rattle.lb_balancer_core.specs.Balancer.{IsJudged}
+use Rattle.lb_balancer_core.specs.Balancer.{IsJudged, ServedValue, Stands, updated as after-update}
 use Rattle.lb_balancer_core.specs.ServedViews.{ServedViewValue, Takes}
+use Rattle.lb_balancer_core.specs.Texts.{one_more}
+use Rattle.lb_balancer_core.proofs.Balancing.{view-is}
 use Rattle.lb_balancer_core.proofs.Memberships.{kept-members, new-members}
 use Rattle.lb_threads_core.specs.Registry.{IsRegistryOf}
-use Rattle.lb_balancer.specs.Texts.{one_view}
 use Rattle.lb_balancer.specs.History.{AreDiscovered, BalancerValue, IsServedBy, IsShownBy, MayGive}
 use Rattle.lb_balancer.specs.Shown.{AreUnready, ShownValue, ShowsView}
 
@@ -161,13 +162,20 @@ numbered false members cells = refl
 
 -- the generation of the first view of a registry
 pub first-generation : (members : List Member)
-    → generation_after (view_updated by_identity 1 members [] one_view []) ≡ (if same_members members [] then 0 else 1)
-first-generation members = numbered (same_members members []) members (shown_cells by_identity 1 members one_view)
+    → generation_after (view_updated by_identity 1 members [] (one_more []) []) ≡ (if same_members members [] then 0 else 1)
+first-generation members = numbered (same_members members []) members (shown_cells by_identity 1 members (one_more []))
 
 -- the first view of a registry, with members that were discovered
 pub first-discovered : {D : Type 0} (d : DiscoverySource D) (members : List Member) (b : Bool) → same_members members [] ≡ b
-    → MayGive d members [] → (let views = view_updated by_identity 1 members [] one_view [] in
+    → MayGive d members [] → (let views = view_updated by_identity 1 members [] (one_more []) [] in
     AreDiscovered d (generation_after views) (membership_after views))
 first-discovered d members true same found = rw same (none-yet d)
 first-discovered d members false other found =
     rw other (record { none = (λ none. absurd (omega (arith, none))); some = (λ some. ∣ ([], found) ∣₁) })
+
+-- what a plain balancer serves of texts that were taken in a registry without views
+pub first-view : {C G : Type 0} (members : List Member) (v : ServedValue C G)
+    → Stands (after-update by_identity 1 members [] (one_more []) []) v
+    → IsViewAfter (view_updated by_identity 1 members [] (one_more []) []) v.view
+first-view members v s =
+    subst (λ vs. IsViewAfter vs v.view) (view-is [] members (shown_cells by_identity 1 members (one_more [])) []) s.view

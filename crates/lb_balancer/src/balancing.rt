@@ -186,7 +186,7 @@ impl<
         alloc: Global,
         origin: Origin<S, D, R, C>,
         serving: Serving<S>,
-        timing: UpdateTimings,
+        timing: Option<UpdateTimings>,
     ) -> Result<Balancing<S, D, R, C>, Refusal>
         requires { IsServedBy origin serving }
         ensures made { IfOk result (λ b. b ≡ origin) }
@@ -195,7 +195,7 @@ impl<
         let registry = origin.registry();
         let owner = registry.own_view(rt, alloc, serving.view_id())?;
         let places = places_over(rt, alloc, serving, &origin)?;
-        Ok(Balancing::behind(origin, owner, places, Some(timing)))
+        Ok(Balancing::behind(origin, owner, places, timing))
     }
 
     // The balancer over these places.

@@ -1,35 +1,27 @@
 //! Makes a balancer from texts. It serves its backends before threads share it, so its refusals are stated exactly.
-ghost use Rattle.std.specs.Prelude.{◌≡◌, ◌⊎◌, [], ℕ, List, length, None, Some, true, false, IfOk, IfErr, OnOk, if◌then◌else◌};
-ghost use Rattle.std.specs.Arc.{arc_value};
+ghost use Rattle.std.specs.Prelude.{◌≡◌, ℕ, List, None, true, false, IfOk, IfErr};
 ghost use Rattle.std.specs.Borrow.{Bor};
 ghost use Rattle.std.specs.Iterator.{Drains, IsFinite};
-ghost use Rattle.lb_select_base.specs.Memberships.{same_members};
-ghost use Rattle.lb_select_base.specs.Refusals.{Refuses};
-ghost use Rattle.lb_health_core.specs.Keys.{by_identity, rule_gives};
-ghost use Rattle.lb_health_core.specs.Registry.{IsRegistryAfter};
-ghost use Rattle.lb_health_view.specs.RegistrySide.{registry_updated, view_updated};
-ghost use Rattle.lb_health_view.specs.Views.{IsViewAfter};
-ghost use Rattle.lb_balancer_core.specs.Balancer.{update_cause};
-ghost use Rattle.lb_balancer_core.specs.Timings.{Reads};
-ghost use Rattle.lb_balancer.specs.Texts.{IsOfTexts, IsTextsRefusal, one_view};
+ghost use Rattle.lb_health_core.specs.Keys.{rule_gives};
+ghost use Rattle.lb_balancer_core.specs.Texts.{IsTextsRefusal};
+ghost use Rattle.lb_balancer.specs.Texts.{IsOfTexts, OfNew};
 
 use crate::balancing::Balancing;
 use crate::load_balancer::LoadBalancer;
 use crate::origin::Origin;
-use crate::serving::{BuiltSelector, Serving, built_of};
-use lb_balancer_core::timings::UpdateTimings;
+use crate::serving::Serving;
+use lb_balancer_core::balancer_core::LoadBalancerCore;
+use lb_balancer_core::served::ServedParts;
 use lb_health_core::health_check::HealthCheck;
 use lb_health_core::keys::{KeyRule, Rule};
 use lb_health_core::registry::Registry;
-use lb_health_view::discovery::{DiscoverySource, ServiceDiscovery, Static};
-use lb_health_view::view::{Settings, ViewCore};
-use lb_select_base::backend::Backend;
+use lb_health_view::discovery::ServiceDiscovery;
 use lb_select_base::moments::MomentSource;
 use lb_select_base::refusal::Refusal;
 use lb_select_base::walk::BackendSelection;
 use lb_threads_core::registry::HealthRegistry;
+use rand_pcg::Pcg64;
 use std::alloc::Global;
-use std::collections::BTreeSet;
 use std::net::Net;
 use std::sync::{Arc, Wait};
 
@@ -47,12 +39,11 @@ impl<
     ///
     /// # Errors
     ///
-    /// Those of `Static::try_from_iter`; then the cause for which the backends make no selector; and `OutOfMemory` where memory is
-    /// refused.
-    pub fn try_from_iter<'a, W: Wait, T: Net, I: Iterator<Item = &'a str> + Drop, K: MomentSource>(
+    /// Those of `Static::try_from_iter`; then the cause for which no backends, or those that were found, make no selector; and
+    /// `OutOfMemory` where memory is refused.
+    pub fn try_from_iter<'a, W: Wait + Net, I: Iterator<Item = &'a str> + Drop, K: MomentSource>(
         rt: &W,
         alloc: Global,
-        net: &T,
         texts: I,
         clock: &mut K,
     ) -> Result<LoadBalancer<S, D, Rule<N>, C>, Refusal>
@@ -63,18 +54,28 @@ impl<
         ensures parts { IfOk result (λ b. (b.shared.config ≡ S.default_config) × (b.owns_checks ≡ true)
             × (b.health_check_frequency ≡ None) × (b.update_frequency ≡ None) × (b.parallel_health_check ≡ false)) }
         ensures refused { IfErr result (λ r. (read : List (Bor (List ℕ))) × Drains I.next_gives texts read
-            × IsTextsRefusal read (λ members. S.refusal members S.default_config) r) }
+            × OfNew (rule_gives N.gives) (λ registry.
+            IsTextsRefusal (rule_gives N.gives) registry read (λ members. S.refusal members S.default_config) r)) }
     {
-        let found = Static::try_from_iter(alloc, net, texts)?;
-        let start = clock.now();
-        let members = found.get()?;
-        let (built, build_duration) = build_timed(alloc, &members, clock)?;
         let mut registry = Registry::with_rule(alloc, Rule::Identity);
-        let serving = first_served(alloc, &mut registry, members, built)?;
-        let end = clock.now();
-        let timing = UpdateTimings::between(start, end, build_duration);
+        let generator = Pcg64::new(1, 1);
+        let made: LoadBalancerCore<S, Pcg64, D> = LoadBalancerCore::try_from_iter(
+            alloc,
+            &mut registry,
+            rt,
+            texts,
+            clock,
+            generator,
+        )?;
+        let LoadBalancerCore {
+            discovery,
+            served,
+            timing,
+        } = made;
+        let ServedParts { served, generator } = served.into_parts();
+        let serving = Serving::with_words(alloc, served, generator)?;
         let origin = Origin {
-            discovery: DiscoverySource::Static(found),
+            discovery,
             config: None,
             first: serving.generation(),
             registry: Arc::new(alloc, HealthRegistry::over(alloc, registry)?)?,
@@ -88,48 +89,4 @@ impl<
             parallel_health_check: false,
         })
     }
-}
-
-// The selector of these members by the default configuration, and how long its build took; the clock isn't read where there are none.
-fn build_timed<S: BackendSelection, K: MomentSource>(
-    alloc: Global,
-    members: &BTreeSet<Backend>,
-    clock: &mut K,
-) -> Result<(BuiltSelector<S>, u128), Refusal>
-    ensures built { Refuses (S.refusal members.now.keys S.default_config)
-        (λ b. (S.members (arc_value b.0.selector) ≡ members.now.keys) × (S.built_with (arc_value b.0.selector) ≡ S.default_config)) result }
-    ensures reads { OnOk result ((times : List ℕ) × Reads K.reads clock.old times clock.new
-        × (length times ≡ (if same_members members.now.keys [] then 0 else 2))) }
-{
-    if members.is_empty() {
-        let built = built_of(alloc, members, &None, 1)?;
-        return Ok((built, 0));
-    }
-    let before = clock.now();
-    let built = built_of(alloc, members, &None, 1)?;
-    let after = clock.now();
-    Ok((built, after.saturating_sub(before)))
-}
-
-// The first view of a registry without views, with these members, and with this selector of them.
-fn first_served<S: BackendSelection, R: KeyRule + Drop>(
-    alloc: Global,
-    registry: &mut Registry<R>,
-    members: BTreeSet<Backend>,
-    built: BuiltSelector<S>,
-) -> Result<Serving<S>, Refusal>
-    requires empty { IsRegistryAfter R.gives by_identity [] registry.old }
-    requires members { S.members (arc_value built.selector) ≡ members.keys }
-    ensures served { IfOk result (λ s. IsViewAfter (view_updated by_identity 1 members.keys [] one_view []) s.view
-        × (s.members ≡ members.keys) × (s.config ≡ S.built_with (arc_value built.selector))) }
-    ensures registry { OnOk result (IsRegistryAfter R.gives by_identity (registry_updated by_identity 1 members.keys [] one_view)
-        registry.new) }
-    ensures refused { IfErr result (λ r. (r ≡ Refusal.OutOfMemory)
-        ⊎ (update_cause None by_identity 1 members.keys one_view [] ≡ Some r)) }
-    ensures one_registry { registry.new.id ≡ registry.old.id }
-{
-    let mut view = ViewCore::register(alloc, registry)?;
-    let settings = Settings::new(alloc);
-    view.update(alloc, registry, members, settings, |_members| ())?;
-    Ok(Serving::new(view, built))
 }

@@ -105,6 +105,25 @@ impl<S: BackendSelection> Serving<S> {
         }
     }
 
+    /// Returns what is served by this view and selector with words of its own, whose random ones are the generator's.
+    ///
+    /// Refused `OutOfMemory` where memory is refused.
+    pub fn with_words(
+        alloc: Global,
+        served: ServedView<S>,
+        generator: Pcg64,
+    ) -> Result<Serving<S>, Refusal>
+        ensures same { IfOk result (λ s. s ≡ served) }
+        ensures refused { IfErr result (λ e. e ≡ Refusal.OutOfMemory) }
+    {
+        let words = Arc::new(alloc, SharedWords::new(generator))?;
+        Ok(Serving {
+            served,
+            words,
+            loads: None,
+        })
+    }
+
     /// States that some history explains the view, so that what holds after each of its histories holds after one.
     ///
     /// Only for the prover: it does nothing at run time.

@@ -144,7 +144,7 @@ impl Made for Balancer<RoundRobin> {
     fn make<W: Net + Wait>(site: &Site<W>) -> Result<Balancer<RoundRobin>, Refusal> {
         let (rt, alloc) = (&site.rt, site.alloc);
         let texts = FIRST.iter().map(|(address, _)| *address);
-        LoadBalancer::try_from_iter(rt, alloc, rt, texts, &mut Ticks { next: 10 })
+        LoadBalancer::try_from_iter(rt, alloc, texts, &mut Ticks { next: 10 })
     }
 }
 

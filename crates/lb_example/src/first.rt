@@ -25,7 +25,7 @@ where
     let listening = format!(in alloc; "{}", server.local_addr()?)?;
     let texts = [listening.as_str(), "127.0.0.1:1"];
     let mut clock = RuntimeClock::new(rt);
-    let balancer = Balancer::try_from_iter(rt, alloc, rt, texts.iter().copied(), &mut clock)?;
+    let balancer = Balancer::try_from_iter(rt, alloc, texts.iter().copied(), &mut clock)?;
     balancer.set_health_check(rt, check)?;
     let (_signal, watch) = shutdown_pair(alloc)?;
     // Discovers and checks once, as no frequency is set; with one, it does so until the signal sends the end.

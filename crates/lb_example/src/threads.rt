@@ -113,7 +113,7 @@ where
     let texts = [one_text.as_str(), other_text.as_str()];
     let (mut signal, watch) = shutdown_pair(alloc)?;
     let mut clock = RuntimeClock::new(rt);
-    let mut balancer = Balancer::try_from_iter(rt, alloc, rt, texts.iter().copied(), &mut clock)?;
+    let mut balancer = Balancer::try_from_iter(rt, alloc, texts.iter().copied(), &mut clock)?;
     balancer.set_health_check(rt, check)?;
     balancer.health_check_frequency = Some(100_000_000);
     run_beside(rt, &balancer, second, &mut signal, &watch)

@@ -16,7 +16,7 @@ fn made_of<R: Net + Wait + Clock + Copy + Drop>(
     texts: &[&'static str],
     clock: &mut Ticks,
 ) -> Result<Tested<RoundRobin, R>, Refusal> {
-    LoadBalancer::try_from_iter(rt, alloc, rt, texts.iter().copied(), clock)
+    LoadBalancer::try_from_iter(rt, alloc, texts.iter().copied(), clock)
 }
 
 // Notes what a balancer of the tests tells of a backend at this address: whether it is ready.

@@ -1,79 +1,109 @@
--- What was looked up is what the first view and its selector are of.
-use Rattle.std.proofs.Common.{◌≡◌, ◌∙◌, [], length, Err, ap, arith, refl, rules, subst}
-use Rattle.std.specs.Prelude.{if◌then◌else◌}
+-- What the plain balancer took in the new registry is what the shared one is made of.
+use Rattle.std.proofs.Common.{◌≡◌, ◌∙◌, [], Err, ap, arith, refl, rules, subst, sym}
 use Rattle.lb_select_base.specs.Memberships.{same_members}
-use Rattle.lb_health_core.specs.Keys.{by_identity}
+use Rattle.lb_select_base.specs.declared.refusal.Refusal.TheVariants.{OutOfMemory}
+use Rattle.lb_health_core.specs.Keys.{by_identity, rule_gives}
 use Rattle.lb_health_core.specs.declared.keys.Rule.{Rule}
 use Rattle.lb_health_view.specs.RegistrySide.{view_updated}
-use Rattle.lb_balancer.specs.Texts.{one_view}
-use Rattle.lb_balancer.proofs.OfTexts.{build-refused, reads-around, view-refused}
-use Rattle.lb_balancer.specs.History.{BalancerValue}
-use Rattle.lb_balancer.proofs.Served.{first-discovered, first-generation}
+use Rattle.lb_health_view.specs.Views.{IsViewAfter}
+use Rattle.lb_balancer_core.specs.ServedViews.{ServedViewValue}
+use Rattle.lb_balancer_core.specs.Texts.{one_more}
+use Rattle.lb_balancer.specs.History.{BalancerValue, MayGive}
+use Rattle.lb_balancer.proofs.OfTexts.{for-memory, of-texts}
+use Rattle.lb_balancer.proofs.Served.{first-discovered, first-generation, first-view}
 use Rattle.lb_balancer.proofs.making.LoadBalancer+S+D+Rule+N+C.try_from_iter.Goals as goal
 
-pub returns-in_err-built-clause-refused : goal.returns-in_err-built-clause-refused
-returns-in_err-built-clause-refused g c =
-    let looked = c.in_ok-found.ensures.made in
-    let e = c.in_err-built.field-0.0 in
-    let is : c.from_residual-in_err-built.result ≡ Err e = search rules in
-    rw is (
-      looked.0,
-      looked.1,
-      build-refused looked.0 (λ members. g.S.BackendSelection.refusal members g.S.BackendSelection.default_config)
-          c.in_ok-members.members.keys c.in_ok-found.found e
-          looked.2 c.in_ok-members.ensures.ok c.in_err-built.ensures.built,
-    )
-
-pub first_served-requires-clause-empty : goal.first_served-requires-clause-empty
-first_served-requires-clause-empty g c = c.with_rule-registry.ensures by_identity (λ b k h. h)
+pub returns-in_err-made-clause-refused : goal.returns-in_err-made-clause-refused
+returns-in_err-made-clause-refused g c =
+    let told = c.in_err-made.ensures.refused in
+    let e = c.in_err-made.field-0.0 in
+    let is : c.from_residual.result ≡ Err e = search rules in
+    rw is (told.0, told.1, (c.with_rule-registry.result, c.with_rule-registry.ensures by_identity (λ b k h. h), told.2))
 
 pub returns-in_err-serving-clause-refused : goal.returns-in_err-serving-clause-refused
 returns-in_err-serving-clause-refused g c =
-    let looked = c.in_ok-found.ensures.made in
-    let e = c.in_err-serving.field-0.0 in
-    let is : c.from_residual-in_err-serving.result ≡ Err e = search rules in
+    let told = c.in_ok-made.ensures.made in
+    let is : c.from_residual-in_err-serving.result ≡ Err OutOfMemory = search rules in
     rw is (
-      looked.0,
-      looked.1,
-      view-refused looked.0 (λ members. g.S.BackendSelection.refusal members g.S.BackendSelection.default_config)
-          c.in_ok-members.members.keys c.in_ok-found.found e
-          looked.2 c.in_ok-members.ensures.ok c.in_ok-built.ensures.built.0 c.in_err-serving.ensures.refused,
+      told.0,
+      told.1,
+      for-memory (rule_gives g.N.KeyRule.gives) c.with_rule-registry.result
+          (c.with_rule-registry.ensures by_identity (λ b k h. h)) told.0
+          (λ members. g.S.BackendSelection.refusal members g.S.BackendSelection.default_config) OutOfMemory refl,
     )
 
-pub returns-clause-made : goal.returns-clause-made
-returns-clause-made g c =
-    let Balancer = BalancerValue g.row.D.Denot g.row.S-Config.Denot (Rule g.row.N.Denot) in
-    let looked = c.in_ok-found.ensures.made in
-    let found = c.in_ok-found.found in
-    let members : c.in_ok-members.members.keys ≡ found = c.in_ok-members.ensures.ok in
-    let times = reads-around g.K.MomentSource.reads (same_members c.in_ok-members.members.keys []) _ _ c.args.clock.now _ _
-    c.now-end.new.self
-    c.now-start.ensures c.in_ok-built.ensures.reads c.now-end.ensures in
-    let first = c.generation.ensures _ c.in_ok-serving.ensures.served.0 ∙ first-generation c.in_ok-members.members.keys in
-    let began = ap (λ (b : Balancer). b.first) c.in_ok-shared.ensures.made ∙ first in (
-      looked.0,
-      looked.1,
-      record {
-        members = found;
-        times = times.0;
-        looked_up = looked.2;
-        keeps = ap (λ (b : Balancer). b.discovery) c.in_ok-shared.ensures.made;
-        read = times.1;
-        readings = subst (λ ms. length times.0 ≡ (if same_members ms [] then 2 else 4)) members times.2;
-        began = subst (λ ms. c.in_ok-shared.shared.first ≡ (if same_members ms [] then 0 else 1)) members began;
-        starts = search rules;
-      },
+pub returns-in_err-over-clause-refused : goal.returns-in_err-over-clause-refused
+returns-in_err-over-clause-refused g c =
+    let told = c.in_ok-made.ensures.made in
+    let is : c.from_residual-in_err-over.result ≡ Err OutOfMemory = search rules in
+    rw is (
+      told.0,
+      told.1,
+      for-memory (rule_gives g.N.KeyRule.gives) c.with_rule-registry.result
+          (c.with_rule-registry.ensures by_identity (λ b k h. h)) told.0
+          (λ members. g.S.BackendSelection.refusal members g.S.BackendSelection.default_config) OutOfMemory refl,
+    )
+
+pub returns-in_err-new-clause-refused : goal.returns-in_err-new-clause-refused
+returns-in_err-new-clause-refused g c =
+    let told = c.in_ok-made.ensures.made in
+    let is : c.from_residual-in_err-new.result ≡ Err OutOfMemory = search rules in
+    rw is (
+      told.0,
+      told.1,
+      for-memory (rule_gives g.N.KeyRule.gives) c.with_rule-registry.result
+          (c.with_rule-registry.ensures by_identity (λ b k h. h)) told.0
+          (λ members. g.S.BackendSelection.refusal members g.S.BackendSelection.default_config) OutOfMemory refl,
+    )
+
+pub returns-in_err-shared-clause-refused : goal.returns-in_err-shared-clause-refused
+returns-in_err-shared-clause-refused g c =
+    let told = c.in_ok-made.ensures.made in
+    let is : c.from_residual-in_err-shared.result ≡ Err OutOfMemory = search rules in
+    rw is (
+      told.0,
+      told.1,
+      for-memory (rule_gives g.N.KeyRule.gives) c.with_rule-registry.result
+          (c.with_rule-registry.ensures by_identity (λ b k h. h)) told.0
+          (λ members. g.S.BackendSelection.refusal members g.S.BackendSelection.default_config) OutOfMemory refl,
     )
 
 pub begun-requires : goal.begun-requires
 begun-requires g c =
-    let members = c.in_ok-members.members.keys in
-    let served = c.in_ok-serving.ensures.served in
-    let config : c.in_ok-serving.serving.config ≡ g.S.BackendSelection.default_config = search rules in
+    let Seen = ServedViewValue g.row.S-Config.Denot in
+    let told = c.in_ok-made.ensures.made in
+    let taken = told.2.taken in
+    let stands = told.2.stands by_identity [] (c.with_rule-registry.ensures by_identity (λ b k h. h)) in
+    let same = c.in_ok-serving.ensures.same ∙ c.into_parts-served.ensures.served in
+    let views = view_updated by_identity 1 taken.members [] (one_more []) [] in
+    let view : IsViewAfter views c.in_ok-serving.serving.view =
+    subst (λ v. IsViewAfter views v) (sym (ap (λ (s : Seen). s.view) same)) (first-view taken.members _ stands) in
     record {
-      config = config;
-      views = view_updated by_identity 1 members [] one_view [];
-      view = served.0;
-      first = let is = c.generation.ensures _ served.0 in omega (arith, is);
-      discovered = first-discovered _ members (same_members members []) refl (c.in_ok-members.ensures.ok, refl);
+      config = ap (λ (s : Seen). s.config) same ∙ c.in_ok-made.ensures.parts.0;
+      views = views;
+      view = view;
+      first = let is = c.generation.ensures _ view in omega (arith, is);
+      discovered =
+          first-discovered _ taken.members (same_members taken.members []) refl
+          (subst (λ d. MayGive d taken.members []) (sym taken.keeps) (refl, refl));
     }
+
+pub returns-clause-made : goal.returns-clause-made
+returns-clause-made g c =
+    let Seen = ServedViewValue g.row.S-Config.Denot in
+    let Balancer = BalancerValue g.row.D.Denot g.row.S-Config.Denot (Rule g.row.N.Denot) in
+    let told = c.in_ok-made.ensures.made in
+    let new = c.with_rule-registry.ensures by_identity (λ b k h. h) in
+    let taken = told.2.taken in
+    let views = view_updated by_identity 1 taken.members [] (one_more []) [] in
+    let view : IsViewAfter views c.in_ok-serving.serving.view =
+    subst (λ v. IsViewAfter views v) (sym (ap (λ (s : Seen). s.view)
+    (c.in_ok-serving.ensures.same ∙ c.into_parts-served.ensures.served)))
+    (first-view taken.members _ (told.2.stands by_identity [] new)) in
+    let first = c.generation.ensures _ view ∙ first-generation taken.members in (
+      told.0,
+      told.1,
+      of-texts (rule_gives g.N.KeyRule.gives) c.with_rule-registry.result new told.0 g.K.MomentSource.reads _ _ taken
+          (ap (λ (b : Balancer). b.discovery) c.in_ok-shared.ensures.made) (search rules)
+          (ap (λ (b : Balancer). b.first) c.in_ok-shared.ensures.made ∙ first),
+    )

@@ -9,5 +9,5 @@ pub returns-clause-updated : goal.returns-clause-updated
 returns-clause-updated g c =
     subst (λ (v : ServedViewValue g.row.S-Config.Denot). HoldsOfBoth g.R.KeyRule.gives v.view c.args.registry.now
     (λ key_of views events. IsViewAfter
-    (view_updated key_of v.view.id c.args.members.keys (settings_of c.args.settings.entries) events views) c.keep.new.self.view))
-    c.self.view_is c.keep.ensures.updated
+    (view_updated key_of v.view.id c.args.members.keys (settings_of c.args.settings.entries) events views)
+    c.keep.new.self.view)) c.self.view_is c.keep.ensures.updated

@@ -12,8 +12,8 @@ pub returns-in-Ok-true-clause-updated : goal.returns-in-Ok-true-clause-updated
 returns-in-Ok-true-clause-updated g c =
     subst (λ (v : ServedViewValue g.row.S-Config.Denot). HoldsOfBoth g.R.KeyRule.gives v.view c.args.registry.now
     (λ key_of views events. IsViewAfter
-    (view_updated key_of v.view.id c.args.members.keys (settings_of c.args.settings.entries) events views) c.renew-selector.new.self.view))
-    c.self.view_is
+    (view_updated key_of v.view.id c.args.members.keys (settings_of c.args.settings.entries) events views)
+    c.renew-selector.new.self.view)) c.self.view_is
     (on-ok c.renew-selector.result.1 _ (ap is_ok c.in-Ok-true.is) c.renew-selector.ensures.updated)
 
 pub returns-in-Ok-true-clause-registry : goal.returns-in-Ok-true-clause-registry
@@ -27,8 +27,8 @@ pub returns-in-Ok-false-clause-updated : goal.returns-in-Ok-false-clause-updated
 returns-in-Ok-false-clause-updated g c =
     subst (λ (v : ServedViewValue g.row.S-Config.Denot). HoldsOfBoth g.R.KeyRule.gives v.view c.args.registry.now
     (λ key_of views events. IsViewAfter
-    (view_updated key_of v.view.id c.args.members.keys (settings_of c.args.settings.entries) events views) c.renew-selector.new.self.view))
-    c.self.view_is
+    (view_updated key_of v.view.id c.args.members.keys (settings_of c.args.settings.entries) events views)
+    c.renew-selector.new.self.view)) c.self.view_is
     (on-ok c.renew-selector.result.1 _ (ap is_ok c.in-Ok-false.is) c.renew-selector.ensures.updated)
 
 pub returns-in-Ok-false-clause-registry : goal.returns-in-Ok-false-clause-registry
