@@ -16,6 +16,7 @@ use lb_crowd::crowd::{Crowd, Registry};
 use log::Log;
 use pingora_load_balancing::HealthRegistry;
 use std::alloc::Global;
+use std::fmt::Debug;
 use std::process::Abort;
 use std::sync::{Arc, Wait};
 use std::thread::Threads;
@@ -47,6 +48,11 @@ enum Row {
     CancelledWhileRead,
     SelectsWhileTheRegistryIsHeld,
     TicketsOfEach,
+}
+
+// Asserts that what a row or a step says is so. An assertion with a message is dear to prove, so there is one.
+fn assert_row<N: Debug>(rt: &impl Abort, holds: bool, row: &N) {
+    assert!(rt; holds, "{row:?}");
 }
 
 // Plays a case. No worker of the groups was started before.

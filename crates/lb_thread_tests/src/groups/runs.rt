@@ -1,44 +1,42 @@
 //! Runs of a group in the background. Some are shut down in the middle of an update, of a check, and of a build: what is under way goes on
 //! to its end, and what it did is kept. One updates again and again, and is shut down once its slots serve what was found; and one has
 //! nobody who could shut it down.
-use super::TURNS;
+use super::{TURNS, assert_row};
 use crate::noted::Noted;
 use lb_crowd::counted::{Counted, Counting, Counts};
-use lb_crowd::crowd::serves;
+use lb_crowd::crowd::{one_backend, serves};
 use log::{Level, Log, Logged};
 use pingora_load_balancing::background::{
-    ReadyWatch, RuntimeClock, ServiceReadyNotifier, ShutdownSignal, ShutdownWatch, ready_pair,
-    shutdown_pair,
+    ReadyWatch, RuntimeClock, ShutdownSignal, ShutdownWatch, ready_pair, shutdown_pair,
 };
-use pingora_load_balancing::discovery::{Discovered, DiscoverySource, ServiceDiscovery, Settings};
+use pingora_load_balancing::discovery::{Discovered, DiscoverySource, ServiceDiscovery};
 use pingora_load_balancing::health_check::{CheckError, HealthCheck, NoRule, Rule};
 use pingora_load_balancing::{
     Backend, Backends, GateRefusal, LoadBalancerGroup, Refusal, SelectorRebuildGate,
 };
 use std::alloc::Global;
-use std::collections::BTreeSet;
 use std::process::Abort;
-use std::sync::atomic::AtomicU64;
 use std::sync::atomic::Ordering::SeqCst;
+use std::sync::atomic::{AtomicBool, AtomicU64};
 use std::sync::{Arc, Wait};
 use std::thread;
 use std::thread::{Threads, join};
 use std::time::{Clock, Duration};
 
-// How many discoveries and how many checks there were.
+// How many discoveries and how many checks there were, and whether the run was told to end.
 #[derive(Drop)]
 struct Calls {
     updates: AtomicU64,
     checks: AtomicU64,
+    ends: AtomicBool,
 }
 
 // A discovery of one backend, whose weight is 2 from the fourth call on, and a check that finds it down. The first call of each waits, for
-// ten seconds at most, until the watch tells that runs are to end. The fifth discovery is refused.
+// ten seconds at most, until the run was told to end. The fifth discovery is refused.
 #[derive(Drop)]
 struct Slow<W> {
     rt: W,
     calls: Arc<Calls>,
-    watch: ShutdownWatch,
 }
 
 impl<W: Clock> Slow<W> {
@@ -49,7 +47,7 @@ impl<W: Clock> Slow<W> {
             return before;
         }
         for _ in 0..10_000 {
-            if self.watch.is_shut() {
+            if self.calls.ends.load(SeqCst) {
                 break;
             }
             thread::sleep(&self.rt, Duration::from_millis(1));
@@ -60,15 +58,12 @@ impl<W: Clock> Slow<W> {
 
 impl<W: Clock> ServiceDiscovery for Slow<W> {
     fn discover(&self, alloc: Global) -> Result<Discovered, Refusal> {
-        let calls: &Calls = &*self.calls;
-        let before = self.count(&calls.updates);
+        let before = self.count(&self.calls.updates);
         if before == 4 {
             return Err(Refusal::Discovery);
         }
-        let mut backends = BTreeSet::new(alloc);
         let weight = if before < 3 { 1 } else { 2 };
-        backends.insert(Backend::new_with_weight(alloc, "1.0.0.1:80", weight)?)?;
-        Ok((backends, Settings::new(alloc)))
+        one_backend(alloc, weight)?.discover(alloc)
     }
 }
 
@@ -76,8 +71,7 @@ impl<W: Clock> HealthCheck for Slow<W> {
     ghost threshold = { λ _ _. 1 };
 
     fn check(&self, _alloc: Global, _target: &Backend) -> Result<(), CheckError> {
-        let calls: &Calls = &*self.calls;
-        self.count(&calls.checks);
+        self.count(&self.calls.checks);
         Err(CheckError::Connect)
     }
 
@@ -98,6 +92,53 @@ struct Bench<W: Wait + Clock + Copy + Drop> {
     group: Group<W>,
 }
 
+// When a run is shut down: once there were so many discoveries, checks and builds, and its notifier was notified, if it is to be. And what
+// it leaves.
+struct Row {
+    updates: u64,
+    checks: u64,
+    builds: u64,
+    is_told: bool,
+    left: Left,
+}
+
+// The group's generation, the one that its first slot serves, and whether its backend is ready.
+type Left = (u64, Option<u64>, bool);
+
+// A run that is shut down in its update, one in its check, and one while it waits for a build that is held. No notifier is notified.
+const SHUT_DOWN: [Row; 3] = [
+    Row {
+        updates: 1,
+        checks: 0,
+        builds: 1,
+        is_told: false,
+        left: (1, Some(0), true),
+    },
+    Row {
+        updates: 2,
+        checks: 1,
+        builds: 1,
+        is_told: false,
+        left: (1, Some(0), false),
+    },
+    Row {
+        updates: 3,
+        checks: 2,
+        builds: 2,
+        is_told: false,
+        left: (1, Some(0), false),
+    },
+];
+
+// A run that updates again and again. It may discover more often than this.
+const AGAIN_AND_AGAIN: Row = Row {
+    updates: 6,
+    checks: 3,
+    builds: 2,
+    is_told: true,
+    left: (2, Some(2), false),
+};
+
 impl<W: Abort + Wait + Clock + Copy + Drop> Bench<W> {
     // With a registry of its own. The first build for an update is held.
     fn new(rt: W, alloc: Global) -> Bench<W> {
@@ -106,9 +147,10 @@ impl<W: Abort + Wait + Clock + Copy + Drop> Bench<W> {
         let calls = Calls {
             updates: AtomicU64::new(0),
             checks: AtomicU64::new(0),
+            ends: AtomicBool::new(false),
         };
         let calls = Arc::new(alloc, calls).expect(&rt, "refused");
-        let group = group_of(rt, alloc, &counts, &calls, &watch);
+        let group = group_of(rt, alloc, &counts, &calls);
         // The slot has a selector now.
         counts.begun.store(1, SeqCst);
         counts.hold(true);
@@ -121,23 +163,14 @@ impl<W: Abort + Wait + Clock + Copy + Drop> Bench<W> {
         }
     }
 
-    // The notifier of a new run, which is not yet to end, and its other half. A run whose notifier is to be notified updates each
-    // millisecond; before it the build goes on, and comes to be served.
-    fn begin(
-        &mut self,
-        rt: &W,
-        alloc: Global,
-        wanted: Wanted,
-    ) -> (ServiceReadyNotifier, ReadyWatch) {
-        self.signal.send(false);
-        if wanted.is_told {
-            self.group.update_frequency = Some(1_000_000);
-            self.counts.hold(false);
-            let shared = &**self.group.shared();
-            assert!(rt; serves(rt, shared, 0, 1, TURNS) && serves(rt, shared, 1, 1, TURNS));
-            assert!(rt; self.refuses_a_gate(rt, alloc));
-        }
-        ready_pair(alloc).expect(rt, "refused")
+    // Lets the build go on, and has the group update each millisecond: whether both slots come to serve what was found, and another gate is
+    // refused then.
+    fn goes_on(&mut self, rt: &W, alloc: Global) -> bool {
+        self.group.update_frequency = Some(1_000_000);
+        self.counts.hold(false);
+        let shared = &**self.group.shared();
+        let are_served = serves(rt, shared, 0, 1, TURNS) && serves(rt, shared, 1, 1, TURNS);
+        are_served && self.refuses_a_gate(rt, alloc)
     }
 
     // Whether the group, which was updated, refuses another gate.
@@ -148,35 +181,21 @@ impl<W: Abort + Wait + Clock + Copy + Drop> Bench<W> {
         answer == Err(GateRefusal::WasUpdated)
     }
 
-    // What the last run left. A run that updates again and again discovers more often than it has to.
-    fn left(&self, rt: &W, alloc: Global, ready: &ReadyWatch, wanted: Wanted) -> Left {
+    // Whether the last run discovered and checked so often, or where it is told, discovered so often at least; and what it left.
+    fn left(&self, rt: &W, alloc: Global, row: &Row) -> (bool, Left) {
         let backend = Backend::new(alloc, "1.0.0.1:80").expect(rt, "refused");
         let updates = self.calls.updates.load(SeqCst);
-        Left {
-            updates: if wanted.is_told {
-                updates.min(wanted.updates)
-            } else {
-                updates
-            },
-            checks: self.calls.checks.load(SeqCst),
-            generation: self.group.backend_generation(rt),
-            served: self.group.selector_generation(rt, 0),
-            is_ready: self.group.backends().ready(rt, &backend),
-            is_told: ready.is_ready(),
-        }
+        let is_so_often = updates == row.updates || row.is_told && updates > row.updates;
+        let left = (
+            self.group.backend_generation(rt),
+            self.group.selector_generation(rt, 0),
+            self.group.backends().ready(rt, &backend),
+        );
+        (
+            is_so_often && self.calls.checks.load(SeqCst) == row.checks,
+            left,
+        )
     }
-}
-
-// How many discoveries and checks there were, what the group's generation and its slot's is, whether the backend is ready, and whether the
-// notifier was notified.
-#[derive(Clone, Copy, Debug, PartialEq, Eq)]
-struct Left {
-    updates: u64,
-    checks: u64,
-    generation: u64,
-    served: Option<u64>,
-    is_ready: bool,
-    is_told: bool,
 }
 
 fn group_of<W: Abort + Wait + Clock + Copy + Drop>(
@@ -184,42 +203,25 @@ fn group_of<W: Abort + Wait + Clock + Copy + Drop>(
     alloc: Global,
     counts: &Arc<Counts<W>>,
     calls: &Arc<Calls>,
-    watch: &ShutdownWatch,
 ) -> Group<W> {
-    let discovery = DiscoverySource::Boxed(slow_for(rt, calls, watch));
+    let discovery = DiscoverySource::Boxed(slow_for(rt, calls));
     let backends = Backends::new(&rt, alloc, discovery);
     let backends: Backends<Slow<W>, Rule<NoRule>, Slow<W>> = backends.expect(&rt, "refused");
-    let counts = Arc::try_clone(counts).expect(&rt, "refused");
-    let mut configs = Vec::new(alloc);
-    configs
-        .push(Some(Counting {
-            config: (),
-            counts: Some(counts),
-        }))
-        .expect(&rt, "refused");
-    configs.push(None).expect(&rt, "refused");
+    let counting = Counting {
+        config: (),
+        counts: Some(Arc::try_clone(counts).expect(&rt, "refused")),
+    };
+    let configs = vec![in alloc; Some(counting), None].expect(&rt, "refused");
     let group = LoadBalancerGroup::from_backends_with_configs(&rt, alloc, backends, configs);
     let group = group.expect(&rt, "refused");
-    let check = slow_for(rt, calls, watch);
+    let check = slow_for(rt, calls);
     group.set_health_check(&rt, check).expect(&rt, "refused");
     group
 }
 
-fn slow_for<W: Abort + Copy + Drop>(rt: W, calls: &Arc<Calls>, watch: &ShutdownWatch) -> Slow<W> {
-    Slow {
-        rt,
-        calls: Arc::try_clone(calls).expect(&rt, "refused"),
-        watch: watch.try_clone().expect(&rt, "refused"),
-    }
-}
-
-// How many discoveries, checks and builds there are to be before a run is shut down, and whether its notifier is to be notified before.
-#[derive(Clone, Copy, Debug)]
-struct Wanted {
-    updates: u64,
-    checks: u64,
-    builds: u64,
-    is_told: bool,
+fn slow_for<W: Abort + Copy + Drop>(rt: W, calls: &Arc<Calls>) -> Slow<W> {
+    let calls = Arc::try_clone(calls).expect(&rt, "refused");
+    Slow { rt, calls }
 }
 
 // Sends the end once so much was counted, within ten seconds; whether it was.
@@ -227,22 +229,52 @@ fn end_after<W: Clock>(
     counts: &Counts<W>,
     calls: &Calls,
     ready: &ReadyWatch,
-    wanted: Wanted,
+    row: &Row,
     signal: &mut ShutdownSignal,
 ) -> bool {
     let mut came = false;
     for _ in 0..10_000 {
-        came = calls.updates.load(SeqCst) >= wanted.updates
-            && calls.checks.load(SeqCst) >= wanted.checks
-            && counts.begun.load(SeqCst) >= wanted.builds
-            && (ready.is_ready() || !wanted.is_told);
+        came = calls.updates.load(SeqCst) >= row.updates
+            && calls.checks.load(SeqCst) >= row.checks
+            && counts.begun.load(SeqCst) >= row.builds
+            && (ready.is_ready() || !row.is_told);
         if came {
             break;
         }
         thread::sleep(&counts.rt, Duration::from_millis(1));
     }
     signal.send(true);
+    calls.ends.store(true, SeqCst);
     came
+}
+
+// Runs the group, and shuts it down as the row says; whether that much came before, whether the notifier was notified as it is to be, and
+// what the run left.
+fn shut_down<
+    W: Abort + Threads + Wait + Clock + Copy + Send + Sync + Drop + 'static,
+    L: Log + Threads + Wait + Copy + Send + Sync + 'static,
+>(rt: &W, logged: &L, alloc: Global, bench: &mut Bench<W>, row: &Row) -> ([bool; 3], Left) {
+    let (notifier, ready) = ready_pair(alloc).expect(rt, "refused");
+    bench.signal.send(false);
+    bench.calls.ends.store(false, SeqCst);
+    let (counts, calls, signal) = (&*bench.counts, &*bench.calls, &mut bench.signal);
+    let (group, watch, mut clock) = (&bench.group, &bench.watch, RuntimeClock::new(*rt));
+    let (came, _) = join(
+        rt,
+        || end_after(counts, calls, &ready, row, signal),
+        move || group.run(logged, alloc, &mut clock, watch, Some(notifier)),
+    );
+    let (is_so_often, left) = bench.left(rt, alloc, row);
+    ([came, is_so_often, ready.is_ready() == row.is_told], left)
+}
+
+// Asserts what becomes of a run that is shut down as the row says.
+fn is_let_end<
+    W: Abort + Threads + Wait + Clock + Copy + Send + Sync + Drop + 'static,
+    L: Log + Threads + Wait + Copy + Send + Sync + 'static,
+>(rt: &W, logged: &L, alloc: Global, bench: &mut Bench<W>, row: &Row) {
+    let told = shut_down(rt, logged, alloc, bench, row);
+    assert_row(rt, told == ([true; 3], row.left), &row.updates);
 }
 
 // Runs the group without frequencies once nobody can send its run's end any more; whether it has updated once more and its notifier was
@@ -250,10 +282,11 @@ fn end_after<W: Clock>(
 fn runs_alone<
     W: Abort + Wait + Clock + Copy + Send + Sync + Drop + 'static,
     L: Log + Threads + Wait + Copy + Send + Sync + 'static,
->(rt: &W, logged: &L, alloc: Global, bench: &Bench<W>) -> bool {
+>(rt: &W, logged: &L, alloc: Global, bench: &mut Bench<W>) -> bool {
     let (signal, watch) = shutdown_pair(alloc).expect(rt, "refused");
     let (notifier, ready) = ready_pair(alloc).expect(rt, "refused");
     drop(signal);
+    bench.group.update_frequency = None;
     let before = bench.calls.updates.load(SeqCst);
     let mut clock = RuntimeClock::new(*rt);
     bench
@@ -261,6 +294,19 @@ fn runs_alone<
         .run(logged, alloc, &mut clock, &watch, Some(notifier));
     let updates = bench.calls.updates.load(SeqCst).wrapping_sub(before);
     updates == 1 && ready.is_ready()
+}
+
+// The runs, one after another.
+fn runs_are_let_end<
+    W: Abort + Threads + Wait + Clock + Copy + Send + Sync + Drop + 'static,
+    L: Log + Threads + Wait + Copy + Send + Sync + 'static,
+>(rt: &W, logged: &L, alloc: Global, bench: &mut Bench<W>) {
+    for row in &SHUT_DOWN {
+        is_let_end(rt, logged, alloc, bench, row);
+    }
+    assert!(rt; bench.goes_on(rt, alloc));
+    is_let_end(rt, logged, alloc, bench, &AGAIN_AND_AGAIN);
+    assert!(rt; runs_alone(rt, logged, alloc, bench));
 }
 
 // Runs that are shut down in their update, in their check, and while they wait for a build that is held. An update goes on to its end,
@@ -273,41 +319,7 @@ fn what_is_under_way_is_let_end(rt: HostRuntime) {
     let noted = Noted::new(rt, alloc);
     let logged = Logged::new(rt, Level::Error, noted);
     let mut bench = Bench::new(rt, alloc);
-    for (updates, checks, builds, is_told) in [
-        (1, 0, 1, false),
-        (2, 1, 1, false),
-        (3, 2, 2, false),
-        (6, 3, 2, true),
-    ] {
-        let wanted = Wanted {
-            updates,
-            checks,
-            builds,
-            is_told,
-        };
-        let (notifier, ready) = bench.begin(&rt, alloc, wanted);
-        let (counts, calls, signal) = (&*bench.counts, &*bench.calls, &mut bench.signal);
-        let (group, watch, mut clock) = (&bench.group, &bench.watch, RuntimeClock::new(rt));
-        let (came, _) = join(
-            &rt,
-            || end_after(counts, calls, &ready, wanted, signal),
-            move || group.run(&logged, alloc, &mut clock, watch, Some(notifier)),
-        );
-        let left = Left {
-            updates,
-            checks,
-            generation: if is_told { 2 } else { 1 },
-            served: Some(if is_told { 2 } else { 0 }),
-            is_ready: updates == 1,
-            is_told,
-        };
-        assert_eq!(rt;
-            (came, bench.left(&rt, alloc, &ready, wanted)),
-            (true, left)
-        );
-    }
-    bench.group.update_frequency = None;
-    assert!(rt; runs_alone(&rt, &logged, alloc, &bench));
+    runs_are_let_end(&rt, &logged, alloc, &mut bench);
     let said = "[ERROR lb_balancer_group::running] load balancer group update failed: Discovery\n";
     assert!(rt; noted.said(said));
 }
