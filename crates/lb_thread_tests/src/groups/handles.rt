@@ -1,5 +1,7 @@
 //! What handles of groups answer: before their first update, after it, and once a worker was missing.
 use super::TURNS;
+use super::passes::selects;
+use super::steps::STILL;
 use super::turns::turn;
 use lb_crowd::crowd::{Group, Handle};
 use log::Log;
@@ -13,15 +15,6 @@ use std::sync::atomic::Ordering::SeqCst;
 use std::thread;
 use std::thread::Threads;
 use std::time::{Clock, Duration};
-
-// What a slot of a handle selects.
-fn selected<W: Abort + Wait + Clock + Copy + Drop>(
-    rt: &W,
-    alloc: Global,
-    group: &Handle<W>,
-) -> Option<Backend> {
-    group.select(rt, alloc, 0, b"k", 4).expect(rt, "refused")
-}
 
 // What a handle answers before its first update.
 fn fresh<W: Abort + Wait + Clock + Copy + Drop>(
@@ -40,7 +33,7 @@ fn fresh<W: Abort + Wait + Clock + Copy + Drop>(
         !group.selectors_ready_for(rt, 1),
         !has_third,
         group.last_update_timing(rt).is_none(),
-        selected(rt, alloc, group).is_none(),
+        selects(rt, alloc, group, 0, None),
         !group.is_cancelled(rt),
     ]
 }
@@ -60,9 +53,9 @@ fn lent<W: Abort + Wait + Clock + Copy + Drop>(
     let members = backends.get_backend(rt).expect(rt, "refused");
     let is_ready = backends.ready(rt, &one);
     for _ in 0..2 {
-        turn(rt, alloc, &**group.shared(), 0);
+        turn(rt, alloc, &**group.shared(), 0, STILL);
     }
-    let is_selected = selected(rt, alloc, group).as_ref() == Some(&one);
+    let is_selected = selects(rt, alloc, group, 0, Some("1.0.0.1:80"));
     backends.set_enable(rt, &one, false);
     [
         before == (0, false),
@@ -72,7 +65,7 @@ fn lent<W: Abort + Wait + Clock + Copy + Drop>(
         is_ready && is_selected,
         !backends.ready(rt, &one),
         !backends.ready(rt, &other),
-        selected(rt, alloc, group).is_none(),
+        selects(rt, alloc, group, 0, None),
         group.last_update_timing(rt).is_some() && !group.is_cancelled(rt),
     ]
 }

@@ -3,6 +3,7 @@ ghost use Rattle.std.specs.Prelude.{◌≡◌};
 ghost use Rattle.std.specs.Arc.{arc_value};
 
 use super::TURNS;
+use super::steps::is_at;
 use lb_crowd::crowd::Handle;
 use log::Log;
 use pingora_load_balancing::background::RuntimeClock;
@@ -49,20 +50,21 @@ fn comes_to_serve<W: Wait + Clock + Copy + Drop>(
     false
 }
 
-// The generation of a reader that enters slot 0 and leaves again, and what it selects.
+// The generation of a reader that enters slot 0 and leaves again, and whether it selects the backend at this address.
 fn entered<W: Abort + Wait + Clock + Copy + Drop>(
     rt: &W,
     alloc: Global,
     group: &Handle<W>,
     pass: &mut GroupPass,
-) -> (u64, Option<Backend>)
+    address: &str,
+) -> (u64, bool)
     requires { pass.old.board ≡ (arc_value group.now.shared).board }
 {
     let reader = group.enter_as(rt, 0, pass).expect(rt, "refused");
     let generation = reader.generation();
     let answer = group.select_in(rt, alloc, &reader, b"k", 1, &|_backend: &Backend| true);
     group.leave(rt, reader);
-    (generation, answer.expect(rt, "refused"))
+    (generation, is_at(rt, alloc, answer, Some(address)))
 }
 
 // What passes read once the workers run: by one that waits for it, and by one that meets that. What a reader selects then.
@@ -70,37 +72,27 @@ fn told_after<W: Abort + Wait + Clock + Copy + Drop>(
     rt: &W,
     alloc: Global,
     group: &Handle<W>,
-    expected: &Backend,
-) -> [bool; 5] {
+) -> [bool; 4] {
     let (mut pass, mut other) = (group.pass(), group.pass());
     let serves = comes_to_serve(rt, group, &mut pass);
     let served = group.selector_generation_as(0, &mut pass);
     group.meet(rt, &mut pass, &mut other);
     let is_met = group.selectors_ready_for_as(1, &mut other);
-    let (generation, chosen) = entered(rt, alloc, group, &mut other);
-    [
-        serves,
-        served == Some(1),
-        is_met,
-        generation == 1,
-        chosen.as_ref() == Some(expected),
-    ]
+    let entered = entered(rt, alloc, group, &mut other, "1.0.0.1:80");
+    [serves, served == Some(1), is_met, entered == (1, true)]
 }
 
-// Whether a slot of a handle selects that backend, by itself and by a reader.
-fn selects<W: Abort + Wait + Clock + Copy + Drop>(
+/// Whether a slot of a handle selects the backend of weight 1 at that address, if any, by itself and by a reader.
+pub(super) fn selects<W: Abort + Wait + Clock + Copy + Drop>(
     rt: &W,
     alloc: Global,
     group: &Handle<W>,
     slot: usize,
-    expected: Option<&Backend>,
+    address: Option<&str>,
 ) -> bool {
-    let found = group.select(rt, alloc, slot, b"k", 4).expect(rt, "refused");
-    let read = group
-        .reader()
-        .select(rt, alloc, slot, b"k", 4)
-        .expect(rt, "refused");
-    found.as_ref() == expected && read == found
+    let found = group.select(rt, alloc, slot, b"k", 4);
+    let read = group.reader().select(rt, alloc, slot, b"k", 4);
+    is_at(rt, alloc, found, address) && is_at(rt, alloc, read, address)
 }
 
 // What a handle answers once its workers served an update: what it selects from each slot and from one that isn't there, and its timings.
@@ -108,12 +100,11 @@ fn served<W: Abort + Wait + Clock + Copy + Drop>(
     rt: &W,
     alloc: Global,
     group: &Handle<W>,
-    expected: &Backend,
 ) -> [bool; 7] {
     [
         group.selectors_ready_for(rt, group.backend_generation(rt)),
-        selects(rt, alloc, group, 0, Some(expected)),
-        selects(rt, alloc, group, 1, Some(expected)),
+        selects(rt, alloc, group, 0, Some("1.0.0.1:80")),
+        selects(rt, alloc, group, 1, Some("1.0.0.1:80")),
         selects(rt, alloc, group, 2, None),
         group.selector_last_update_timing(rt, 0).is_some(),
         matches!(group.last_update_timing(rt), Some(timing) if timing.build_duration == 0),
@@ -127,11 +118,12 @@ pub fn with_workers<W: Abort + Log + Threads + Wait + Clock + Copy + Send + Sync
     alloc: Global,
     group: &Handle<W>,
 ) {
-    let expected = Backend::new(alloc, "1.0.0.1:80").expect(rt, "refused");
     let before = told_before(rt, alloc, group);
     let missing = group.start_workers(rt, alloc, RuntimeClock::new(*rt));
-    assert_eq!(rt; (before, missing), ([true; 5], 0));
-    let after = told_after(rt, alloc, group, &expected);
-    let served = served(rt, alloc, group, &expected);
-    assert_eq!(rt; (after, served), ([true; 5], [true; 7]));
+    let after = told_after(rt, alloc, group);
+    let served = served(rt, alloc, group);
+    assert_eq!(rt;
+        (before, missing, after, served),
+        ([true; 5], 0, [true; 4], [true; 7])
+    );
 }

@@ -1,5 +1,6 @@
 //! A group of two slots of two kinds, whose turns the test takes: what each slot selects, by loads, by the flags of its discovery and of
 //! its caller, and by a pass of checks; and that it leaves while its registry is held.
+use super::steps::STILL;
 use super::turns::turn;
 use crate::balancer::fixtures::{
     DISABLES, ENABLES, InTurn, Line, ROWS, SecondDown, TestedRegistry, in_turn, note, second_down,
@@ -36,10 +37,7 @@ impl<R: Abort + Wait + Clock + Copy + Drop> Bench<R> {
         let shared = Arc::try_clone(registry).expect(rt, "refused");
         let backends = Backends::new_with_health_registry(rt, alloc, in_turn(rt, &line), shared);
         let backends = backends.expect(rt, "refused");
-        let mut configs = Vec::new(alloc);
-        for kind in [Kind::Least, Kind::Ketama] {
-            configs.push(Some(kind)).expect(rt, "refused");
-        }
+        let configs = vec![in alloc; Some(Kind::Least), Some(Kind::Ketama)].expect(rt, "refused");
         let group = LoadBalancerGroup::from_backends_with_configs(rt, alloc, backends, configs);
         Bench {
             alloc,
@@ -72,7 +70,7 @@ impl<R: Abort + Wait + Clock + Copy + Drop> Bench<R> {
             .update(rt, self.alloc, &mut clock)
             .expect(rt, "refused");
         for slot in [0, 0, 1, 1] {
-            turn(rt, self.alloc, &**self.group.shared(), slot);
+            turn(rt, self.alloc, &**self.group.shared(), slot, STILL);
         }
         self.note(rt, text);
     }

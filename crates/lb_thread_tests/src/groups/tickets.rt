@@ -1,51 +1,30 @@
 //! Each built selector has a counter of tickets of its own, which begins at 0; a reader of a retired selector goes on in that one's.
-use crate::groups::turns::{Still, turn};
-use lb_crowd::crowd::select_one;
-use pingora_load_balancing::discovery::{DiscoverySource, Static};
+use super::steps::{STILL, Step, is_at, take};
 use pingora_load_balancing::health_check::{HealthCheck, KeyRule};
 use pingora_load_balancing::port::Turn;
 use pingora_load_balancing::selection::BackendSelection;
-use pingora_load_balancing::{Backend, Refusal, SharedGroup};
+use pingora_load_balancing::{Backend, HealthRegistry, SharedGroup};
 use std::alloc::Global;
-use std::collections::BTreeSet;
 use std::process::Abort;
 use std::sync::Wait;
 
-// A discovery of the first so many of these three.
-fn first_ones(alloc: Global, count: usize) -> Result<DiscoverySource<Static>, Refusal> {
-    let mut backends = BTreeSet::new(alloc);
-    for address in ["1.0.0.1:80", "1.0.0.2:80", "1.0.0.3:80"]
-        .iter()
-        .take(count)
-    {
-        backends.insert(Backend::new(alloc, *address)?)?;
-    }
-    Ok(DiscoverySource::Static(Static::new(backends)))
-}
+// Before a reader enters, and while it is in, before it selects and after that.
+const BEFORE: [Step; 4] = [
+    Step::Updated(3, 1),
+    Step::Took(0, Turn::Published(1)),
+    Step::Selected(Some("1.0.0.1:80")),
+    Step::Selected(Some("1.0.0.2:80")),
+];
 
-// Updates a group to so many backends, and builds slot 0; whether that is published.
-fn published<S: BackendSelection, R: KeyRule + Drop, C: HealthCheck + Drop, W: Wait + Abort>(
-    rt: &W,
-    alloc: Global,
-    group: &SharedGroup<S, R, C>,
-    backends: usize,
-) -> bool {
-    let discovery = first_ones(alloc, backends).expect(rt, "refused");
-    let updated = group.update(rt, alloc, &discovery, &mut Still {});
-    let generation = updated.expect(rt, "refused");
-    turn(rt, alloc, group, 0) == Turn::Published(generation)
-}
+const WITHIN: [Step; 3] = [
+    Step::Updated(2, 2),
+    Step::Took(0, Turn::Published(2)),
+    Step::Selected(Some("1.0.0.1:80")),
+];
 
-// Whether an answer is the backend at this address.
-fn is_at<W: Abort>(
-    rt: &W,
-    alloc: Global,
-    answer: Result<Option<Backend>, Refusal>,
-    address: &str,
-) -> bool {
-    let expected = Backend::new(alloc, address).expect(rt, "refused");
-    answer.expect(rt, "refused").as_ref() == Some(&expected)
-}
+const LATER: [Step; 1] = [Step::Selected(Some("1.0.0.2:80"))];
+
+const AFTER: [Step; 1] = [Step::Took(0, Turn::Nothing)];
 
 /// A slot that serves by turns begins with the first backend of each selector that is built for it, while a reader of the one before goes
 /// on where that one was.
@@ -54,31 +33,17 @@ pub fn tickets_of_each<
     R: KeyRule + Drop,
     C: HealthCheck + Drop,
     W: Wait + Abort,
->(rt: &W, alloc: Global, group: &SharedGroup<S, R, C>) {
-    let first = published(rt, alloc, group, 3);
-    let before = [
-        is_at(rt, alloc, select_one(rt, alloc, group, 0), "1.0.0.1:80"),
-        is_at(rt, alloc, select_one(rt, alloc, group, 0), "1.0.0.2:80"),
-    ];
-    let reader = group
-        .enter_as(rt, 0, &mut group.pass())
-        .expect(rt, "refused");
-    let second = published(rt, alloc, group, 2);
+>(rt: &W, alloc: Global, group: &SharedGroup<S, R, C>, registry: &HealthRegistry<R, C>) {
+    let mut clock = STILL;
+    take(rt, alloc, group, registry, &mut clock, "tickets", &BEFORE);
+    let mut pass = group.pass();
+    let reader = group.enter_as(rt, 0, &mut pass).expect(rt, "refused");
+    take(rt, alloc, group, registry, &mut clock, "tickets", &WITHIN);
     let any = |_backend: &Backend| true;
-    let after = [
-        is_at(rt, alloc, select_one(rt, alloc, group, 0), "1.0.0.1:80"),
-        is_at(
-            rt,
-            alloc,
-            group.select_in(rt, alloc, &reader, b"k", 1, &any),
-            "1.0.0.3:80",
-        ),
-        is_at(rt, alloc, select_one(rt, alloc, group, 0), "1.0.0.2:80"),
-    ];
+    let answer = group.select_in(rt, alloc, &reader, b"k", 1, &any);
+    let goes_on = is_at(rt, alloc, answer, Some("1.0.0.3:80"));
+    take(rt, alloc, group, registry, &mut clock, "tickets", &LATER);
     group.leave(rt, reader);
-    let last = turn(rt, alloc, group, 0);
-    assert_eq!(rt;
-        (first, before, second, after, last),
-        (true, [true; 2], true, [true; 3], Turn::Nothing)
-    );
+    take(rt, alloc, group, registry, &mut clock, "tickets", &AFTER);
+    assert!(rt; goes_on);
 }

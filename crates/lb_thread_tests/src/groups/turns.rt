@@ -1,4 +1,6 @@
 //! Turns that the caller's thread takes for slots of groups on one gate, and their workers' last ones.
+use super::assert_row;
+use super::steps::{At, STILL, is_at};
 use lb_crowd::crowd::{one_backend, select_one};
 use log::sink::Locked;
 use log::{Level, Log, Logged};
@@ -13,54 +15,44 @@ use std::collections::BTreeSet;
 use std::process::Abort;
 use std::sync::Wait;
 
-// A clock that always reads the same.
-#[derive(Drop)]
-pub(super) struct Still {}
-
-impl MomentSource for Still {
-    ghost use Rattle.std.specs.Prelude.{◌≡◌};
-
-    ghost reads = { λ _ m _. m ≡ 10 };
-
-    fn now(&mut self) -> u128 {
-        10
-    }
-}
-
-// Updates a group to a backend of this weight; the generation.
+// Updates a group to what is found, by this clock; the newest generation.
 pub(super) fn update<
     S: BackendSelection,
     R: KeyRule + Drop,
     C: HealthCheck + Drop,
     W: Wait + Abort,
->(rt: &W, alloc: Global, group: &SharedGroup<S, R, C>, weight: usize) -> u64 {
-    let discovery = one_backend(alloc, weight).expect(rt, "refused");
-    group
-        .update(rt, alloc, &discovery, &mut Still {})
-        .expect(rt, "refused")
+    K: MomentSource,
+>(
+    rt: &W,
+    alloc: Global,
+    group: &SharedGroup<S, R, C>,
+    found: Result<DiscoverySource<Static>, Refusal>,
+    clock: &mut K,
+) -> u64 {
+    let found = found.expect(rt, "refused");
+    group.update(rt, alloc, &found, clock).expect(rt, "refused")
 }
 
-// Takes a turn for a slot.
+// Takes a turn for a slot, by this clock.
 pub(super) fn turn<S: BackendSelection, R: KeyRule + Drop, C: HealthCheck + Drop, W: Wait + Abort>(
     rt: &W,
     alloc: Global,
     group: &SharedGroup<S, R, C>,
     slot: usize,
+    mut clock: At,
 ) -> Turn {
     let mut port = LockedPort::new(group, rt);
-    worker_turn(alloc, &mut port, slot, &mut Still {}).expect(rt, "refused")
+    worker_turn(alloc, &mut port, slot, &mut clock).expect(rt, "refused")
 }
 
-// Whether slot 0 selects the one backend.
-fn selects<S: BackendSelection, R: KeyRule + Drop, C: HealthCheck + Drop, W: Wait + Abort>(
-    rt: &W,
-    alloc: Global,
-    group: &SharedGroup<S, R, C>,
-) -> bool {
-    let expected = Backend::new(alloc, "1.0.0.1:80").expect(rt, "refused");
-    let selected = select_one(rt, alloc, group, 0).expect(rt, "refused");
-    selected.as_ref() == Some(&expected)
-}
+// Turns for slot 0 of the first of two groups, or of the second, and what comes of them.
+const TURNS: [(bool, Turn); 5] = [
+    (true, Turn::Published(1)),
+    (false, Turn::Busy),
+    (true, Turn::Nothing),
+    (false, Turn::Published(1)),
+    (false, Turn::Nothing),
+];
 
 /// While what one group retired is not destroyed, the other one builds nothing; then the permit is back. A turn with nothing to do says
 /// so, what was built is selected, and a cancelled group builds no more.
@@ -70,27 +62,22 @@ pub fn turns_on_one_gate<
     C: HealthCheck + Drop,
     W: Wait + Abort,
 >(rt: &W, alloc: Global, first: &SharedGroup<S, R, C>, second: &SharedGroup<S, R, C>) {
-    let generations = [update(rt, alloc, first, 1), update(rt, alloc, second, 1)];
-    let turns = [
-        turn(rt, alloc, first, 0),
-        turn(rt, alloc, second, 0),
-        turn(rt, alloc, first, 0),
-        turn(rt, alloc, second, 0),
-        turn(rt, alloc, second, 0),
+    let mut clock = STILL;
+    let generations = [
+        update(rt, alloc, first, one_backend(alloc, 1), &mut clock),
+        update(rt, alloc, second, one_backend(alloc, 1), &mut clock),
     ];
-    let is_selected = selects(rt, alloc, first);
+    for (is_first, wanted) in &TURNS {
+        let group = if *is_first { first } else { second };
+        assert_row(rt, turn(rt, alloc, group, 0, STILL) == *wanted, wanted);
+    }
+    let answer = select_one(rt, alloc, first, 0);
+    let is_selected = is_at(rt, alloc, answer, Some("1.0.0.1:80"));
     first.cancel(rt);
-    let wanted = [
-        Turn::Published(1),
-        Turn::Busy,
-        Turn::Nothing,
-        Turn::Published(1),
-        Turn::Nothing,
-    ];
-    let last = turn(rt, alloc, first, 0);
+    let last = turn(rt, alloc, first, 0, STILL);
     assert_eq!(rt;
-        (generations, turns, is_selected, last),
-        ([1, 1], wanted, true, Turn::Cancelled)
+        (generations, is_selected, last == Turn::Cancelled),
+        ([1, 1], true, true)
     );
 }
 
@@ -101,17 +88,18 @@ pub fn worker_of_one_let_go<
     C: HealthCheck + Drop,
     W: Log + Wait + Abort,
 >(rt: &W, alloc: Global, group: &SharedGroup<S, R, C>) {
-    let generation = update(rt, alloc, group, 1);
+    let mut clock = STILL;
+    let generation = update(rt, alloc, group, one_backend(alloc, 1), &mut clock);
     group.let_go();
     let was_cancelled = group.is_cancelled(rt);
     let told = [
         generation == 1,
         !was_cancelled,
-        work(rt, alloc, group, 0, &mut Still {}),
+        work(rt, alloc, group, 0, &mut clock),
         group.is_cancelled(rt),
         group.worker_count() == 0,
         group.selector_generation(rt, 0) == Some(0),
-        !work(rt, alloc, group, 7, &mut Still {}),
+        !work(rt, alloc, group, 7, &mut clock),
     ];
     assert_eq!(rt; told, [true; 7]);
 }
@@ -154,7 +142,8 @@ fn works_once<S: BackendSelection, R: KeyRule + Drop, C: HealthCheck + Drop, W: 
     group: &SharedGroup<S, R, C>,
 ) -> Result<bool, Refusal> {
     let heavy = too_heavy(alloc)?;
-    group.update(rt, alloc, &heavy, &mut Still {})?;
+    let mut clock = STILL;
+    group.update(rt, alloc, &heavy, &mut clock)?;
     Ok(work(rt, alloc, group, 0, &mut LettingGo { group, reading: 0 }))
 }
 

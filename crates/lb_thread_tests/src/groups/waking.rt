@@ -1,13 +1,12 @@
 //! Readers of selectors that are retired: only the last one that leaves wakes the worker, and it does so at once.
-ghost use Rattle.std.specs.Prelude.{◌≡◌};
-
 use super::TURNS;
+use super::turns::update;
 use lb_crowd::crowd::{Crowd, is_free, one_backend, serves};
 use log::Log;
 use pingora_load_balancing::background::RuntimeClock;
 use pingora_load_balancing::health_check::{HealthCheck, KeyRule};
 use pingora_load_balancing::selection::BackendSelection;
-use pingora_load_balancing::{GroupPass, MomentSource, SelectorRebuildGate, SharedGroup};
+use pingora_load_balancing::{MomentSource, SelectorRebuildGate, SharedGroup};
 use std::alloc::Global;
 use std::process::Abort;
 use std::sync::Wait;
@@ -22,74 +21,43 @@ const WOKEN: u64 = 50;
 // In nanoseconds.
 const FIVE_SECONDS: u128 = 5_000_000_000;
 
-// Updates a group to a backend of that weight; the generation.
-fn update<
-    S: BackendSelection,
-    R: KeyRule + Drop,
-    C: HealthCheck + Drop,
-    W: Abort + Wait + Clock + Copy,
->(rt: &W, alloc: Global, group: &SharedGroup<S, R, C>, weight: usize) -> u64 {
-    let discovery = one_backend(alloc, weight).expect(rt, "refused");
-    group
-        .update(rt, alloc, &discovery, &mut RuntimeClock::new(*rt))
-        .expect(rt, "refused")
-}
-
-// Updates a group; whether that slot comes to serve the generation.
+// Updates a group to a backend of that weight; whether that slot comes to serve the generation.
 fn comes_to<
     S: BackendSelection,
     R: KeyRule + Drop,
     C: HealthCheck + Drop,
     W: Abort + Wait + Clock + Copy,
 >(rt: &W, alloc: Global, group: &SharedGroup<S, R, C>, slot: usize, weight: usize) -> bool {
-    let generation = update(rt, alloc, group, weight);
+    let mut clock = RuntimeClock::new(*rt);
+    let generation = update(rt, alloc, group, one_backend(alloc, weight), &mut clock);
     serves(rt, group, slot, generation, TURNS)
 }
 
 // What slot 0 serves once it was updated under two readers, and was to be again, and one of the two has left: whether it serves what was
-// built under both, nobody was woken since, and the permit is out.
-fn one_leaves<
-    S: BackendSelection,
-    R: KeyRule + Drop,
-    C: HealthCheck + Drop,
-    W: Abort + Wait + Clock + Copy,
->(
-    rt: &W,
-    alloc: Global,
-    group: &SharedGroup<S, R, C>,
-    gate: &SelectorRebuildGate,
-    pass: &mut GroupPass,
-) -> [bool; 5]
-    requires { pass.old.board ≡ group.now.board }
-{
-    let reader = group.enter_as(rt, 0, pass).expect(rt, "refused");
-    let is_retired = comes_to(rt, alloc, group, 0, 2);
-    let due = update(rt, alloc, group, 1);
-    // A worker that gave the permit back before wakes the others a little later.
-    thread::sleep(rt, Duration::from_millis(20));
-    let seen = group.wakes().seen();
-    group.leave(rt, reader);
-    let is_quiet = group.wakes().seen() == seen;
-    [
-        is_retired,
-        due == 3,
-        is_quiet,
-        group.selector_generation(rt, 0) == Some(2),
-        !is_free(rt, gate),
-    ]
-}
-
-// The same, and then the other one leaves.
+// built under both, nobody was woken since, and the permit is out. Then the other one leaves.
 fn both_leave<
     S: BackendSelection,
     R: KeyRule + Drop,
     C: HealthCheck + Drop,
     W: Abort + Wait + Clock + Copy,
 >(rt: &W, alloc: Global, group: &SharedGroup<S, R, C>, gate: &SelectorRebuildGate) -> [bool; 5] {
-    let mut pass = group.pass();
+    let (mut pass, mut clock) = (group.pass(), RuntimeClock::new(*rt));
     let reader = group.enter_as(rt, 0, &mut pass).expect(rt, "refused");
-    let told = one_leaves(rt, alloc, group, gate, &mut pass);
+    let other = group.enter_as(rt, 0, &mut pass).expect(rt, "refused");
+    let is_retired = comes_to(rt, alloc, group, 0, 2);
+    let due = update(rt, alloc, group, one_backend(alloc, 1), &mut clock);
+    // A worker that gave the permit back before wakes the others a little later.
+    thread::sleep(rt, Duration::from_millis(20));
+    let seen = group.wakes().seen();
     group.leave(rt, reader);
+    let told = [
+        is_retired,
+        due == 3,
+        group.wakes().seen() == seen,
+        group.selector_generation(rt, 0) == Some(2),
+        !is_free(rt, gate),
+    ];
+    group.leave(rt, other);
     told
 }
 
