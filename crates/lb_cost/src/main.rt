@@ -4,6 +4,7 @@
 #![tactic(auto)]
 
 mod board;
+mod gates;
 mod group;
 mod groups;
 mod health;

@@ -5,20 +5,17 @@
 //! goes on.
 use crate::passes::pass;
 use crate::process::{Process, resident};
-use crate::soak_groups::{Flips, Groups, Registry, Site, settles, starts, stir};
+use crate::soak_groups::{Groups, Site, settles, starts, stir};
 use crate::soak_threads::{Tally, joined, start_user};
 use crate::words::number_at;
 use anyhow::Error;
 use lb_select_base::refusal::Refusal;
-use lb_threads_core::gate::SelectorRebuildGate;
-use lb_threads_core::registry::HealthRegistry;
 use log::Log;
 use std::alloc::Global;
 use std::rt::Files;
-use std::sync::atomic::AtomicU64;
 use std::sync::atomic::Ordering::SeqCst;
 use std::sync::{Arc, Wait};
-use std::thread::Threads;
+use std::thread::{JoinHandle, Threads};
 use std::time::{Clock, Duration};
 use std::{io, thread};
 
@@ -57,7 +54,6 @@ enum Fault {
 struct Done {
     rounds: u64,
     turns: u64,
-    builds: u64,
     after_a_minute: u64,
 }
 
@@ -67,45 +63,37 @@ fn all_start<W: Log + Threads + Wait + Clock + Copy + Send + Sync + Drop + 'stat
     alloc: Global,
     groups: &Groups<W>,
 ) -> Result<(), Fault> {
-    let mut are_started = starts(rt, alloc, &*groups.random);
-    for group in &groups.chosen {
-        are_started &= starts(rt, alloc, &**group);
+    for group in groups {
+        if !starts(rt, alloc, &**group) {
+            return Err(Fault::Unstarted);
+        }
     }
-    if are_started {
-        Ok(())
-    } else {
-        Err(Fault::Unstarted)
-    }
+    Ok(())
 }
 
 // Updates one of the groups, in turn, and now and then checks the targets of a registry, in turn too.
 fn happens<W: Log + Threads + Wait + Clock + Copy + Send + Sync + Drop>(
     rt: &W,
     alloc: Global,
-    site: &Site,
+    site: &Site<W>,
     groups: &Groups<W>,
     turn: u64,
 ) -> Result<(), Refusal> {
-    let place = (turn % 4) as usize;
-    match groups.chosen.get(place) {
-        Some(group) => stir(rt, alloc, &**group, turn)?,
-        None => stir(rt, alloc, &*groups.random, turn)?,
+    if let Some(group) = groups.get((turn % 4) as usize) {
+        stir(rt, alloc, &**group, turn)?;
     }
-    let [registry, other] = &site.registries;
-    match turn % 16 {
-        3 => pass(rt, alloc, registry, false),
-        7 => pass(rt, alloc, other, false),
-        11 => pass(rt, alloc, registry, true),
-        15 => pass(rt, alloc, other, true),
-        _ => Ok(()),
+    if turn % 4 == 3 {
+        let side = site.side(turn % 8 == 7);
+        pass(rt, alloc, &side.registry, turn % 16 > 8)?;
     }
+    Ok(())
 }
 
-// All updates of a round. Two groups are cancelled then, or none.
+// All updates of a round. One group on each gate is cancelled then, or none.
 fn stirred<W: Log + Threads + Wait + Clock + Copy + Send + Sync + Drop>(
     rt: &W,
     alloc: Global,
-    site: &Site,
+    site: &Site<W>,
     groups: &Groups<W>,
     is_cancelled: bool,
 ) -> Result<(), Refusal> {
@@ -114,50 +102,61 @@ fn stirred<W: Log + Threads + Wait + Clock + Copy + Send + Sync + Drop>(
         thread::sleep(rt, Duration::from_millis(PAUSE));
     }
     if is_cancelled {
-        groups.cancel_two(rt);
+        for place in [1, 3] {
+            if let Some(group) = groups.get(place) {
+                group.cancel(rt);
+            }
+        }
         thread::sleep(rt, Duration::from_millis(10 * PAUSE));
     }
     Ok(())
+}
+
+// Starts a thread for each group that uses it.
+fn users<W: Threads + Wait + Clock + Copy + Send + Sync + Drop + 'static>(
+    rt: &W,
+    alloc: Global,
+    groups: &Groups<W>,
+    tally: &Arc<Tally>,
+) -> Result<Vec<Option<JoinHandle<bool>>>, Refusal> {
+    let mut users = Vec::new(alloc);
+    for group in groups {
+        users.push(start_user(rt, alloc, group, tally))?;
+    }
+    Ok(users)
 }
 
 // Threads use the groups while all of a round happens. Returns how many turns they took.
 fn used<W: Log + Threads + Wait + Clock + Copy + Send + Sync + Drop + 'static>(
     rt: &W,
     alloc: Global,
-    site: &Site,
+    site: &Site<W>,
     groups: &Groups<W>,
     is_cancelled: bool,
 ) -> Result<u64, Error> {
     all_start(rt, alloc, groups)?;
     let tally = Arc::new(alloc, Tally::new())?;
-    let [first, second, third] = &groups.chosen;
-    let users = [
-        start_user(rt, alloc, first, &tally),
-        start_user(rt, alloc, second, &tally),
-        start_user(rt, alloc, third, &tally),
-        start_user(rt, alloc, &groups.random, &tally),
-    ];
+    let users = users(rt, alloc, groups, &tally)?;
     let stirred = stirred(rt, alloc, site, groups, is_cancelled);
     tally.over.store(true, SeqCst);
-    let mut are_right = true;
-    for user in users {
-        are_right &= joined(rt, user);
-    }
+    let are_right = joined(rt, users);
+    let turns = tally.turns.load(SeqCst);
+    drop(tally);
     stirred?;
     if !are_right {
         Err(Fault::Wrong)?;
     }
-    Ok(tally.turns.load(SeqCst))
+    Ok(turns)
 }
 
 // Drops the groups, and looks at what they leave.
 fn left<W: Wait + Clock + Copy + Drop>(
     rt: &W,
     alloc: Global,
-    site: &Site,
+    site: &Site<W>,
     groups: Groups<W>,
 ) -> Result<(), Error> {
-    let left = groups.leave(rt, alloc, site)?;
+    let left = site.leave(rt, alloc, groups)?;
     if left != [true; 5] {
         Err(Fault::Left(left))?;
     }
@@ -168,35 +167,39 @@ fn left<W: Wait + Clock + Copy + Drop>(
 fn round<W: Log + Threads + Wait + Clock + Copy + Send + Sync + Drop + 'static>(
     rt: &W,
     alloc: Global,
-    site: &Site,
+    site: &Site<W>,
     done: &mut Done,
 ) -> Result<(), Error> {
-    let groups = Groups::new(*rt, alloc, site)?;
+    let groups = site.groups(rt, alloc)?;
     let turns = used(rt, alloc, site, &groups, done.rounds % 2 == 0)?;
     done.rounds = done.rounds.saturating_add(1);
     done.turns = done.turns.saturating_add(turns);
-    done.builds = done.builds.saturating_add(groups.builds());
     left(rt, alloc, site, groups)
 }
 
-// Groups that serve what they were updated to, and in which nothing happens for ten seconds.
-fn idle<
+// Has groups serve what they are updated to. Returns how much processor time is taken in the ten seconds after that, in which nothing
+// happens.
+fn rested<
     W: Log + Threads + Wait + Clock + Files + AllocGlobal + Copy + Send + Sync + Drop + 'static,
->(rt: &W, alloc: Global, site: &Site) -> Result<(), Error> {
-    let groups = Groups::new(*rt, alloc, site)?;
-    all_start(rt, alloc, &groups)?;
-    let mut are_served = true;
-    for group in &groups.chosen {
+>(rt: &W, alloc: Global, groups: &Groups<W>) -> Result<u64, Error> {
+    all_start(rt, alloc, groups)?;
+    for group in groups {
         stir(rt, alloc, &**group, 0)?;
-        are_served &= settles(rt, &**group);
-    }
-    stir(rt, alloc, &*groups.random, 0)?;
-    if !are_served || !settles(rt, &*groups.random) {
-        Err(Fault::Wrong)?;
+        if !settles(rt, &**group) {
+            Err(Fault::Wrong)?;
+        }
     }
     let before = Process::read(rt)?.ticks;
     thread::sleep(rt, Duration::from_secs(IDLE));
-    let taken = Process::read(rt)?.ticks.saturating_sub(before);
+    Ok(Process::read(rt)?.ticks.saturating_sub(before))
+}
+
+// New groups in which nothing happens.
+fn idle<
+    W: Log + Threads + Wait + Clock + Files + AllocGlobal + Copy + Send + Sync + Drop + 'static,
+>(rt: &W, alloc: Global, site: &Site<W>) -> Result<(), Error> {
+    let groups = site.groups(rt, alloc)?;
+    let taken = rested(rt, alloc, &groups)?;
     left(rt, alloc, site, groups)?;
     if taken >= IDLE_TICKS {
         Err(Fault::Busy(taken))?;
@@ -215,10 +218,11 @@ fn print_done<W: Print>(
     rt: &W,
     seconds: u64,
     done: &Done,
+    builds: u64,
     flips: u64,
     resident: u64,
 ) -> io::Result<()> {
-    let (rounds, turns, builds) = (done.rounds, done.turns, done.builds);
+    let (rounds, turns) = (done.rounds, done.turns);
     println!(rt;
         "{seconds} seconds: {rounds} rounds, {turns} turns of threads, {builds} builds, {flips} flips, {resident} KiB"
     )
@@ -238,13 +242,12 @@ fn rounds<
         + Sync
         + Drop
         + 'static,
->(rt: &W, alloc: Global, site: &Site, seconds: u64) -> Result<Done, Error> {
+>(rt: &W, alloc: Global, site: &Site<W>, seconds: u64) -> Result<Done, Error> {
     let begun = rt.monotonic().unwrap_or(Duration::from_secs(0));
     let mut minutes = 0;
     let mut done = Done {
         rounds: 0,
         turns: 0,
-        builds: 0,
         after_a_minute: 0,
     };
     for _ in rt.forever() {
@@ -256,7 +259,14 @@ fn rounds<
             if done.after_a_minute == 0 {
                 done.after_a_minute = now;
             }
-            print_done(rt, passed, &done, site.flipped.load(SeqCst), now)?;
+            print_done(
+                rt,
+                passed,
+                &done,
+                site.builds(),
+                site.flipped.load(SeqCst),
+                now,
+            )?;
         }
         if passed >= seconds {
             break;
@@ -292,7 +302,7 @@ fn soaked<
         + Sync
         + Drop
         + 'static,
->(rt: &W, alloc: Global, site: &Site, seconds: u64) -> Result<(), Error> {
+>(rt: &W, alloc: Global, site: &Site<W>, seconds: u64) -> Result<(), Error> {
     let done = rounds(rt, alloc, site, seconds)?;
     println!(rt; "no answer was wrong, and every permit is back")?;
     remains(rt)?;
@@ -312,15 +322,6 @@ fn soaked<
     Ok(())
 }
 
-// A registry with its check.
-fn checked<W: Wait>(rt: &W, registry: &Registry, flipped: &Arc<AtomicU64>) -> Result<(), Refusal> {
-    let check = Flips {
-        asked: AtomicU64::new(0),
-        flipped: Arc::try_clone(flipped)?,
-    };
-    registry.set_health_check(rt, check)
-}
-
 /// Goes on for so many seconds, or until something is wrong.
 pub fn run<
     W: Log
@@ -337,19 +338,6 @@ pub fn run<
         + 'static,
 >(rt: &W, alloc: Global, numbers: &[String]) -> Result<(), Error> {
     let seconds = u64::from(number_at(numbers, 0, 10)?);
-    let site = Site {
-        gates: [
-            Arc::new(alloc, SelectorRebuildGate::new(alloc)?)?,
-            Arc::new(alloc, SelectorRebuildGate::new(alloc)?)?,
-        ],
-        registries: [
-            Arc::new(alloc, HealthRegistry::new(alloc)?)?,
-            Arc::new(alloc, HealthRegistry::new(alloc)?)?,
-        ],
-        flipped: Arc::new(alloc, AtomicU64::new(0))?,
-    };
-    for registry in &site.registries {
-        checked(rt, &**registry, &site.flipped)?;
-    }
+    let site = Site::new(rt, alloc)?;
     soaked(rt, alloc, &site, seconds)
 }

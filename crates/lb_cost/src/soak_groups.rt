@@ -1,17 +1,17 @@
 //! The groups of the soak: four of two slots each, two on each of two gates and two over each of two registries. Their slots have selectors
 //! of all five kinds.
+use crate::gates::take_gate;
 use crate::members::member;
-use lb_balancer_group::gate_refusal::GateRefusal;
+use crate::passes::Flips;
+use lb_balancer_core::configured::Configured;
 use lb_balancer_group::group::LoadBalancerGroup;
 use lb_crowd::counted::{Counted, Counting, Counts};
 use lb_crowd::crowd::{ends, is_free, lives_none};
-use lb_health_core::error::CheckError;
 use lb_health_core::health_check::HealthCheck;
-use lb_health_core::keys::Rule;
+use lb_health_core::keys::{KeyRule, Rule};
 use lb_health_view::discovery::{Discovered, DiscoverySource, ServiceDiscovery};
 use lb_health_view::view::Settings;
 use lb_script::kinds::{Chosen, Kind};
-use lb_select::selection::Random;
 use lb_select_base::backend::Backend;
 use lb_select_base::refusal::Refusal;
 use lb_select_base::walk::BackendSelection;
@@ -20,6 +20,7 @@ use lb_threads_core::clock::RuntimeClock;
 use lb_threads_core::gate::SelectorRebuildGate;
 use lb_threads_core::keyed::NoRule;
 use lb_threads_core::registry::HealthRegistry;
+use lb_threads_group::group::SharedGroup;
 use log::Log;
 use std::alloc::Global;
 use std::collections::BTreeSet;
@@ -64,184 +65,217 @@ impl ServiceDiscovery for Generations {
     }
 }
 
-/// A check that finds every third target down, in the order of its calls.
-#[derive(Drop)]
-pub struct Flips {
-    pub asked: AtomicU64,
-    pub flipped: Arc<AtomicU64>,
-}
-
-impl HealthCheck for Flips {
-    ghost threshold = { λ _ _. 1 };
-
-    fn check(&self, _alloc: Global, _target: &Backend) -> Result<(), CheckError> {
-        if self.asked.fetch_add(1, SeqCst) % 3 == 0 {
-            return Err(CheckError::Connect);
-        }
-        Ok(())
-    }
-
-    fn health_status_change(&self, _target: &Backend, _healthy: bool) {
-        self.flipped.fetch_add(1, SeqCst);
-    }
-
-    fn health_threshold(&self, _success: bool) -> usize {
-        1
-    }
-}
-
 /// A group of the soak.
 pub type Handle<W, S> = LoadBalancerGroup<Counted<W, S>, Generations, Rule<NoRule>, Flips>;
 
-/// A registry of the soak. The caller makes it, since a function that made one would hide its boxed rule.
+// What a handle shares with its workers.
+type Shared<W, S> = SharedGroup<Configured<Counted<W, S>>, Rule<NoRule>, Flips>;
+
+/// A registry of the soak.
 pub type Registry = HealthRegistry<Rule<NoRule>, Flips>;
 
-/// Two gates and two registries, which stay while groups come and go, and how many cells have flipped.
-#[derive(Drop)]
-pub struct Site {
-    pub gates: [Arc<SelectorRebuildGate>; 2],
-    pub registries: [Arc<Registry>; 2],
-    pub flipped: Arc<AtomicU64>,
+/// The four groups.
+pub type Groups<W> = Vec<Arc<Handle<W, Chosen>>>;
+
+// Each group: whether it is on the second gate, whether it is over the second registry, and what its two slots select by.
+const EACH_GROUP: [(bool, bool, Kind, Kind); 4] = [
+    (false, false, Kind::RoundRobin, Kind::Fnv),
+    (false, true, Kind::Ketama, Kind::Least),
+    (true, false, Kind::Least, Kind::RoundRobin),
+    (true, true, Kind::Random, Kind::Random),
+];
+
+/// A gate with the counts of the selectors on it, and a registry.
+pub struct Side<W: Drop> {
+    gate: Arc<SelectorRebuildGate>,
+    counts: Arc<Counts<W>>,
+    pub registry: Arc<Registry>,
 }
 
-// The configuration of a slot whose selectors are counted.
-fn slot<W: Drop, C: Drop>(
-    counts: &Arc<Counts<W>>,
-    config: C,
-) -> Result<Option<Counting<W, C>>, Refusal> {
-    Ok(Some(Counting {
-        config,
-        counts: Some(Arc::try_clone(counts)?),
-    }))
-}
-
-// A group without workers on this gate and over this registry, whose two slots have these configurations.
-fn group_on<W: Wait + Clock + Drop, S: BackendSelection>(
-    rt: &W,
-    alloc: Global,
-    gate: &Arc<SelectorRebuildGate>,
-    registry: &Arc<Registry>,
-    counts: &Arc<Counts<W>>,
-    first: S::Config,
-    second: S::Config,
-) -> Result<Arc<Handle<W, S>>, Refusal> {
-    let mut configs = Vec::new(alloc);
-    configs.push(slot(counts, first)?)?;
-    configs.push(slot(counts, second)?)?;
-    let found = DiscoverySource::Boxed(Generations {
-        found: AtomicU64::new(0),
-    });
-    let backends = Backends::new_with_health_registry(rt, alloc, found, Arc::try_clone(registry)?)?;
-    let mut group: Handle<W, S> = LoadBalancerGroup::from_backends_with_configs(
-        rt, alloc, backends, configs,
-    )?;
-    match group.with_rebuild_gate(rt, alloc, Arc::try_clone(gate)?) {
-        Ok(()) => Ok(Arc::new(alloc, group)?),
-        Err(GateRefusal::NotMade(refusal)) => Err(refusal),
-        Err(GateRefusal::WasUpdated) => Err(Refusal::NoSuch),
+impl<W: Drop> Drop for Side<W> {
+    fn drop(self) {
+        let Side {
+            gate: _,
+            counts: _,
+            registry: _,
+        } = self;
     }
 }
 
-/// The four groups, and the counts of the selectors on each gate.
-#[derive(Drop)]
-pub struct Groups<W: Wait + Clock + Copy + Drop> {
-    counts: [Arc<Counts<W>>; 2],
-    pub chosen: [Arc<Handle<W, Chosen>>; 3],
-    pub random: Arc<Handle<W, Random>>,
+// A registry whose check counts here what flips.
+fn checked<W: Wait>(
+    rt: &W,
+    alloc: Global,
+    flipped: &Arc<AtomicU64>,
+) -> Result<Arc<Registry>, Refusal> {
+    let registry: Arc<Registry> = Arc::new(alloc, HealthRegistry::new(alloc)?)?;
+    // Every third target is down, in the order of the calls.
+    let check = Flips::new(3, Arc::try_clone(flipped)?);
+    registry.set_health_check(rt, check)?;
+    Ok(registry)
 }
 
-// Counts of a gate's selectors.
-fn counts_of<W: Drop>(rt: W, alloc: Global) -> Result<Arc<Counts<W>>, Refusal> {
-    Ok(Arc::new(alloc, Counts::new(rt, false))?)
-}
-
-impl<W: Wait + Clock + Copy + Drop> Groups<W> {
-    /// Makes the groups, without workers.
-    pub fn new(rt: W, alloc: Global, site: &Site) -> Result<Groups<W>, Refusal> {
-        let counts = [counts_of(rt, alloc)?, counts_of(rt, alloc)?];
-        let ([gate, other_gate], [registry, other]) = (&site.gates, &site.registries);
-        let [one, two] = &counts;
-        let (turn, hash) = (Kind::RoundRobin, Kind::Fnv);
-        let (ring, least) = (Kind::Ketama, Kind::Least);
-        let chosen = [
-            group_on(&rt, alloc, gate, registry, one, turn, hash)?,
-            group_on(&rt, alloc, gate, other, one, ring, least)?,
-            group_on(&rt, alloc, other_gate, registry, two, least, turn)?,
-        ];
-        let random = group_on(&rt, alloc, other_gate, other, two, (), ())?;
-        // Each slot has a selector now; those that were built to make the groups are gone.
-        one.most.store(4, SeqCst);
-        two.most.store(4, SeqCst);
-        Ok(Groups {
+impl<W: Wait + Clock + Copy + Drop> Side<W> {
+    fn new(rt: &W, alloc: Global, flipped: &Arc<AtomicU64>) -> Result<Side<W>, Refusal> {
+        let registry = checked(rt, alloc, flipped)?;
+        let gate = Arc::new(alloc, SelectorRebuildGate::new(alloc)?)?;
+        let counts = Arc::new(alloc, Counts::new(*rt, false))?;
+        Ok(Side {
+            gate,
             counts,
-            chosen,
-            random,
+            registry,
         })
+    }
+
+    // The configuration of a slot whose selectors are counted.
+    fn slot<C: Drop>(&self, config: C) -> Result<Option<Counting<W, C>>, Refusal> {
+        let counts = Some(Arc::try_clone(&self.counts)?);
+        Ok(Some(Counting { config, counts }))
+    }
+
+    // What a group over the registry finds.
+    fn found(
+        &self,
+        rt: &W,
+        alloc: Global,
+    ) -> Result<Backends<Generations, Rule<NoRule>, Flips>, Refusal> {
+        let registry = Arc::try_clone(&self.registry)?;
+        let found = DiscoverySource::Boxed(Generations {
+            found: AtomicU64::new(0),
+        });
+        Backends::new_with_health_registry(rt, alloc, found, registry)
+    }
+
+    // A group without workers on this gate and over the registry of that side, whose two slots have these configurations.
+    fn group<S: BackendSelection>(
+        &self,
+        rt: &W,
+        alloc: Global,
+        over: &Side<W>,
+        first: S::Config,
+        second: S::Config,
+    ) -> Result<Arc<Handle<W, S>>, Refusal> {
+        let mut configs = Vec::new(alloc);
+        configs.push(self.slot(first)?)?;
+        configs.push(self.slot(second)?)?;
+        let found = over.found(rt, alloc)?;
+        let mut group: Handle<W, S> = LoadBalancerGroup::from_backends_with_configs(
+            rt, alloc, found, configs,
+        )?;
+        take_gate(rt, alloc, &mut group, &self.gate)?;
+        Ok(Arc::new(alloc, group)?)
+    }
+
+    // Whether no more selectors than the slots and one lived on the gate, none lives on, the permit is back, and the registry has nothing
+    // to check.
+    fn left(&self, rt: &W, alloc: Global) -> [bool; 4] {
+        [
+            self.counts.most.load(SeqCst) <= MOST,
+            lives_none(&self.counts),
+            is_free(rt, &self.gate),
+            self.registry.target_count(rt, alloc) == Ok(0),
+        ]
+    }
+}
+
+/// Two gates and two registries, which stay while groups come and go, and how many cells have flipped.
+pub struct Site<W: Drop> {
+    sides: [Side<W>; 2],
+    pub flipped: Arc<AtomicU64>,
+}
+
+impl<W: Drop> Drop for Site<W> {
+    fn drop(self) {
+        let Site {
+            sides: _,
+            flipped: _,
+        } = self;
+    }
+}
+
+impl<W: Wait + Clock + Copy + Drop> Site<W> {
+    /// Makes a site without groups.
+    pub fn new(rt: &W, alloc: Global) -> Result<Site<W>, Refusal> {
+        let flipped = Arc::new(alloc, AtomicU64::new(0))?;
+        let first = Side::new(rt, alloc, &flipped)?;
+        let second = Side::new(rt, alloc, &flipped)?;
+        Ok(Site {
+            sides: [first, second],
+            flipped,
+        })
+    }
+
+    /// Returns the first side, or the second one.
+    pub fn side(&self, is_second: bool) -> &Side<W> {
+        let [first, second] = &self.sides;
+        if is_second { second } else { first }
+    }
+
+    /// Makes the groups, without workers.
+    pub fn groups(&self, rt: &W, alloc: Global) -> Result<Groups<W>, Refusal> {
+        let mut groups = Vec::new(alloc);
+        for (is_on_second, is_over_second, first, second) in &EACH_GROUP {
+            let over = self.side(*is_over_second);
+            let on = self.side(*is_on_second);
+            groups.push(on.group(rt, alloc, over, *first, *second)?)?;
+        }
+        // Each slot has a selector now; those that were built to make the groups are gone.
+        for side in &self.sides {
+            side.counts.most.store(4, SeqCst);
+        }
+        Ok(groups)
     }
 
     /// Returns how many builds were begun.
     pub fn builds(&self) -> u64 {
-        let [one, two] = &self.counts;
-        one.begun
-            .load(SeqCst)
-            .saturating_add(two.begun.load(SeqCst))
-    }
-
-    /// Cancels one group on each gate.
-    pub fn cancel_two(&self, rt: &W) {
-        let [_, second, _] = &self.chosen;
-        second.cancel(rt);
-        self.random.cancel(rt);
+        let mut builds = 0u64;
+        for side in &self.sides {
+            builds = builds.saturating_add(side.counts.begun.load(SeqCst));
+        }
+        builds
     }
 
     /// Drops the groups. Returns whether their workers end, no more selectors than the slots and one lived on a gate, none lives on, each
     /// permit is back, and the registries have nothing to check.
-    pub fn leave(self, rt: &W, alloc: Global, site: &Site) -> Result<[bool; 5], Refusal> {
-        let [first, second, third] = &self.chosen;
-        let shared = [
-            Arc::try_clone(first.shared())?,
-            Arc::try_clone(second.shared())?,
-            Arc::try_clone(third.shared())?,
-        ];
-        let random = Arc::try_clone(self.random.shared())?;
-        let Groups {
-            counts,
-            chosen,
-            random: handle,
-        } = self;
-        drop(chosen);
-        drop(handle);
-        let mut have_ended = ends(rt, &*random, TURNS);
-        for group in &shared {
-            have_ended &= ends(rt, &**group, TURNS);
-        }
-        drop(shared);
-        drop(random);
-        Ok(left(rt, alloc, site, &counts, have_ended))
+    pub fn leave(&self, rt: &W, alloc: Global, groups: Groups<W>) -> Result<[bool; 5], Refusal> {
+        let shared = shared_of(alloc, &groups)?;
+        drop(groups);
+        let have_ended = all_end(rt, shared);
+        let [first, second] = &self.sides;
+        let [most, none, free, empty] = first.left(rt, alloc);
+        let [most_too, none_too, free_too, empty_too] = second.left(rt, alloc);
+        Ok([
+            have_ended,
+            most && most_too,
+            none && none_too,
+            free && free_too,
+            empty && empty_too,
+        ])
     }
 }
 
-// What groups leave whose workers have ended, or haven't.
-fn left<W: Wait + Clock>(
-    rt: &W,
+// What handles share with their workers.
+fn shared_of<W: Clock + Drop, S: BackendSelection>(
     alloc: Global,
-    site: &Site,
-    counts: &[Arc<Counts<W>>; 2],
-    have_ended: bool,
-) -> [bool; 5] {
-    let [one, two] = counts;
-    let ([gate, other_gate], [registry, other]) = (&site.gates, &site.registries);
-    let targets = [
-        registry.target_count(rt, alloc),
-        other.target_count(rt, alloc),
-    ];
-    [
-        have_ended,
-        one.most.load(SeqCst) <= MOST && two.most.load(SeqCst) <= MOST,
-        lives_none(one) && lives_none(two),
-        is_free(rt, gate) && is_free(rt, other_gate),
-        targets == [Ok(0), Ok(0)],
-    ]
+    groups: &Vec<Arc<Handle<W, S>>>,
+) -> Result<Vec<Arc<Shared<W, S>>>, Refusal> {
+    let mut shared = Vec::new(alloc);
+    for group in groups {
+        shared.push(Arc::try_clone(group.shared())?)?;
+    }
+    Ok(shared)
+}
+
+// Whether the workers of groups end. The groups are gone then.
+fn all_end<S: BackendSelection, R: KeyRule + Drop, C: HealthCheck + Drop, W: Wait + Clock>(
+    rt: &W,
+    groups: Vec<Arc<SharedGroup<S, R, C>>>,
+) -> bool {
+    let mut have_ended = true;
+    for group in &groups {
+        have_ended &= ends(rt, &**group, TURNS);
+    }
+    have_ended
 }
 
 /// Starts a group's workers. Returns whether each could be started.

@@ -238,10 +238,14 @@ where
     started.ok()
 }
 
-/// Returns what a thread answered; `false` where none was started.
-pub fn joined<W: Threads>(rt: &W, user: Option<JoinHandle<bool>>) -> bool {
-    match user {
-        Some(user) => user.join(rt),
-        None => false,
+/// Returns whether each thread could be started and found all right.
+pub fn joined<W: Threads>(rt: &W, users: Vec<Option<JoinHandle<bool>>>) -> bool {
+    let mut are_right = true;
+    for user in users {
+        are_right &= match user {
+            Some(user) => user.join(rt),
+            None => false,
+        };
     }
+    are_right
 }
