@@ -13,7 +13,7 @@ mod passes;
 mod process;
 mod rebuilds;
 mod refused;
-mod refused_passes;
+mod refused_found;
 mod refused_subjects;
 mod selects;
 mod shared;

@@ -1,85 +1,21 @@
 //! Calls of shared types in which memory may be refused: `refused`. A call that was refused for it has to leave all that can be read as it
-//! was, and is made again. Each call has to answer what its row says, whether it was made again or not.
-use crate::refused_passes::passes;
-use crate::refused_subjects::{Alone, Balancer, Calls, Group, Made, View};
+//! was, and is made again. Each call has to answer what its row says, whether it was made again or not. A pass of checks that was refused
+//! has checked nothing; where a thread can't be started for a check, the check runs on the caller's.
+use crate::refused_found::{FIRST, Members, OTHER, set_of};
+use crate::refused_subjects::{Calls, Made};
 use anyhow::Error;
 use lb_balancer_core::timings::UpdateTimings;
-use lb_health_view::discovery::{Discovered, ServiceDiscovery};
-use lb_health_view::view::Settings;
-use lb_select::ketama::KetamaHashing;
-use lb_select::selection::{FNVHash, RoundRobin};
 use lb_select_base::backend::Backend;
-use lb_select_base::moments::MomentSource;
 use lb_select_base::refusal::Refusal;
 use log::Log;
 use std::alloc::Global;
 use std::collections::BTreeSet;
 use std::io;
 use std::net::Net;
-use std::sync::atomic::AtomicBool;
-use std::sync::atomic::Ordering::SeqCst;
-use std::sync::{Arc, Wait};
+use std::sync::Wait;
 use std::thread::Threads;
 
-/// Backends by address and weight.
-pub type Members = &'static [(&'static str, usize)];
-
-/// Two backends.
-pub const FIRST: Members = &[("1.0.0.1:80", 1), ("1.0.0.2:80", 2)];
-
-/// Other backends, of which one is in the first list too.
-pub const OTHER: Members = &[("1.0.0.2:80", 2), ("1.0.0.3:80", 3), ("1.0.0.4:80", 4)];
-
-/// A discovery that finds `FIRST`, or `OTHER` where that is set; each backend is enabled.
-#[derive(Drop)]
-pub struct Lists {
-    pub other: Arc<AtomicBool>,
-}
-
-impl ServiceDiscovery for Lists {
-    fn discover(&self, alloc: Global) -> Result<Discovered, Refusal> {
-        let members = if self.other.load(SeqCst) {
-            OTHER
-        } else {
-            FIRST
-        };
-        let set = set_of(alloc, members)?;
-        let mut settings = Settings::new(alloc);
-        for backend in &set {
-            settings.insert((backend.addr.clone()?, backend.weight), true)?;
-        }
-        Ok((set, settings))
-    }
-}
-
-/// Returns the backends of a list.
-pub fn set_of(alloc: Global, members: Members) -> Result<BTreeSet<Backend>, Refusal> {
-    let mut set = BTreeSet::new(alloc);
-    for (address, weight) in members {
-        set.insert(Backend::new_with_weight(alloc, address, *weight)?)?;
-    }
-    Ok(set)
-}
-
-/// A clock that goes on by five at each reading.
-#[derive(Drop)]
-pub struct Ticks {
-    pub next: u128,
-}
-
-impl MomentSource for Ticks {
-    ghost use Rattle.std.specs.Prelude.{◌≡◌};
-
-    ghost reads = { λ s m _. m ≡ s.next };
-
-    fn now(&mut self) -> u128 {
-        let moment = self.next;
-        self.next = moment.saturating_add(5);
-        moment
-    }
-}
-
-/// A call, of those that take memory.
+/// A call, of those that take memory, or a reading of what it did.
 #[derive(Clone, Copy)]
 pub enum Call {
     /// Discovers the first list or the other one. Answers the newest generation.
@@ -97,38 +33,46 @@ pub enum Call {
     List,
     /// Disables the last backend of the first list. Answers how many of that list are ready then.
     Disable,
+    /// Checks the targets, side by side or in turn, where those of odd weight fail or those of even weight. Answers how many verdicts have
+    /// flipped a cell so far.
+    Pass { is_parallel: bool, odd_fail: bool },
+    /// Answers how often the check was asked so far.
+    Asked,
+    /// Answers 1 where of the first three cells these are ready.
+    Ready([bool; 3]),
 }
 
-/// What can be read: generations, or how many targets there are; the weight of what is selected; and how long the last update took.
+/// What can be read of a registry: how many targets there are, which cells are ready, how many verdicts have flipped one, and how often the
+/// check was asked.
 #[derive(Clone, Copy, PartialEq, Eq)]
-pub struct Seen {
+pub struct Cells {
+    pub targets: usize,
+    pub ready: [bool; 8],
+    pub flips: u64,
+    pub asked: u64,
+}
+
+/// What can be read of what serves backends: the generations, the weight of what is selected, and how long the last update took.
+#[derive(Clone, Copy, PartialEq, Eq)]
+pub struct Served {
     pub newest: u64,
     pub served: u64,
-    pub targets: usize,
     pub selected: Option<usize>,
     pub timing: Option<UpdateTimings>,
 }
 
-/// What the calls are made of.
-pub trait Subject {
-    /// Reads what can be read; once more, where that is refused.
-    fn seen(&self) -> Option<Seen>;
-
-    /// Returns whether a backend is ready.
-    fn is_ready(&self, backend: &Backend) -> bool;
-
-    /// Disables a backend.
-    fn disable(&self, backend: &Backend);
-
-    /// Makes a call, of those without flags.
-    fn make(&self, call: Call) -> Result<u64, Refusal>;
+/// What can be read of a subject.
+#[derive(Clone, Copy, PartialEq, Eq)]
+pub struct Seen {
+    pub cells: Cells,
+    pub served: Option<Served>,
 }
 
 // How many of these backends are ready.
-fn count_in<T: Subject>(subject: &T, set: &BTreeSet<Backend>) -> u64 {
+fn count_in<W: Wait + Drop>(calls: &Calls<W>, set: &BTreeSet<Backend>) -> u64 {
     let mut count: u64 = 0;
     for backend in set {
-        if subject.is_ready(backend) {
+        if calls.is_ready(backend) {
             count = count.saturating_add(1);
         }
     }
@@ -136,26 +80,36 @@ fn count_in<T: Subject>(subject: &T, set: &BTreeSet<Backend>) -> u64 {
 }
 
 // Makes any call.
-fn answer<T: Subject>(alloc: Global, subject: &T, call: Call) -> Result<u64, Refusal> {
+fn answer<W: Log + Threads + Wait + Copy + Sync + Drop>(
+    alloc: Global,
+    calls: &Calls<W>,
+    call: Call,
+) -> Result<u64, Refusal> {
     match call {
         Call::Disable => {
             let set = set_of(alloc, FIRST)?;
             if let Some(backend) = set.last() {
-                subject.disable(backend);
+                calls.disable(backend);
             }
-            Ok(count_in(subject, &set))
+            Ok(count_in(calls, &set))
         }
-        _ => subject.make(call),
+        Call::Load => {
+            for backend in &set_of(alloc, FIRST)? {
+                calls.set_load(backend)?;
+            }
+            Ok(0)
+        }
+        _ => calls.make(call),
     }
 }
 
 // What can be read of a subject, and how many backends of the first list are ready; counted once more, where that is refused.
-fn look_at<T: Subject>(alloc: Global, subject: &T) -> Option<(Seen, u64)> {
+fn look_at<W: Wait + Drop>(alloc: Global, calls: &Calls<W>) -> Option<(Seen, u64)> {
     let set = match set_of(alloc, FIRST) {
         Ok(set) => set,
         Err(_) => set_of(alloc, FIRST).ok()?,
     };
-    Some((subject.seen()?, count_in(subject, &set)))
+    Some((calls.seen()?, count_in(calls, &set)))
 }
 
 /// Calls with what they answer.
@@ -208,6 +162,59 @@ const GROUP: &[Row] = &[
     (Call::Turn, 3),
 ];
 
+// Passes over backends of the weights 2, 3 and 4.
+const PASSES: &[Row] = &[
+    (
+        Call::Pass {
+            is_parallel: false,
+            odd_fail: false,
+        },
+        2,
+    ),
+    (Call::Asked, 3),
+    (Call::Ready([false, true, false]), 1),
+    (
+        Call::Pass {
+            is_parallel: true,
+            odd_fail: false,
+        },
+        2,
+    ),
+    (Call::Asked, 6),
+    (Call::Ready([false, true, false]), 1),
+    (
+        Call::Pass {
+            is_parallel: true,
+            odd_fail: true,
+        },
+        5,
+    ),
+    (Call::Asked, 9),
+    (Call::Ready([true, false, true]), 1),
+    (
+        Call::Pass {
+            is_parallel: false,
+            odd_fail: false,
+        },
+        8,
+    ),
+    (Call::Asked, 12),
+    (Call::Ready([false, true, false]), 1),
+    (Call::Targets, 3),
+];
+
+// The subjects, each with its name and its calls.
+const SUBJECTS: [(Made, &str, &[Row]); 8] = [
+    (Made::Registry, "the calls of a shared registry", REGISTRY),
+    (Made::ByAddress, "those of a registry by address", REGISTRY),
+    (Made::View, "the calls of a shared view", VIEW),
+    (Made::Balancer, "the calls of a shared balancer", BALANCER),
+    (Made::Configured, "those of a configured one", BALANCER),
+    (Made::OfTexts, "those of one made of texts", TEXTS),
+    (Made::Group, "the calls of a shared group", GROUP),
+    (Made::Checked, "the passes of a shared registry", PASSES),
+];
+
 /// What came of a subject's calls: whether all agreed, and which one was made again, by its number from 1; 0 for the one that makes the
 /// subject.
 #[derive(Clone, Copy)]
@@ -233,37 +240,45 @@ impl Course {
         }
     }
 
-    /// Notes that memory was refused for a call, which is made again, and whether that left what can be read as it was.
-    pub fn refused(&mut self, number: usize, is_same: bool) {
+    // Notes that memory was refused for a call, which is made again, and whether that left what can be read as it was.
+    fn refused(&mut self, number: usize, is_same: bool) {
         self.again = Some(number);
         self.agrees &= is_same;
     }
 
-    /// Notes whether a call came to what its row says.
-    pub fn done(&mut self, agrees: bool) {
+    // Notes whether a call came to what its row says.
+    fn done(&mut self, agrees: bool) {
         self.agrees &= agrees;
     }
 
     // Makes a call, again where memory was refused for it.
-    fn call<T: Subject>(&mut self, alloc: Global, subject: &T, number: usize, (call, wanted): Row) {
-        let before = look_at(alloc, subject);
-        let mut told = answer(alloc, subject, call);
+    fn call<W: Log + Threads + Wait + Copy + Sync + Drop>(
+        &mut self,
+        alloc: Global,
+        calls: &Calls<W>,
+        number: usize,
+        (call, wanted): Row,
+    ) {
+        let before = look_at(alloc, calls);
+        let mut told = answer(alloc, calls, call);
         if told == Err(Refusal::OutOfMemory) {
-            self.refused(number, look_at(alloc, subject) == before);
-            told = answer(alloc, subject, call);
+            self.refused(number, look_at(alloc, calls) == before);
+            told = answer(alloc, calls, call);
         }
-        self.done(told == Ok(wanted) && look_at(alloc, subject).is_some());
+        self.done(told == Ok(wanted) && look_at(alloc, calls).is_some());
     }
 
     // Makes the calls of a table.
-    fn play<T: Subject>(mut self, alloc: Global, subject: Option<&T>, rows: &[Row]) -> Course {
-        let Some(subject) = subject else {
-            return Course::new(false);
-        };
+    fn play<W: Log + Threads + Wait + Copy + Sync + Drop>(
+        mut self,
+        alloc: Global,
+        calls: &Calls<W>,
+        rows: &[Row],
+    ) -> Course {
         let mut number: usize = 0;
         for row in rows {
             number = number.saturating_add(1);
-            self.call(alloc, subject, number, *row);
+            self.call(alloc, calls, number, *row);
         }
         self
     }
@@ -283,51 +298,28 @@ impl Course {
     }
 }
 
-// Makes the calls of a subject, and reports what came of them.
-fn agree<W: Net + Wait + Print + Copy + Drop, T: Made + Drop>(
+// Makes a subject and its calls. Returns what came of them.
+fn course_of<W: Log + Net + Threads + Wait + Copy + Sync + Drop>(
     rt: &W,
     alloc: Global,
-    name: &str,
+    made: Made,
     rows: &[Row],
-) -> io::Result<bool>
-where
-    Calls<W, T>: Subject,
-{
-    let (made, course): (Option<Calls<W, T>>, Course) = Calls::new(*rt, alloc);
-    course.play(alloc, made.as_ref(), rows).report(rt, name)
+) -> Course {
+    match Calls::new(*rt, alloc, made) {
+        (Some(calls), course) => course.play(alloc, &calls, rows),
+        (None, _) => Course::new(false),
+    }
 }
 
-// Makes passes over a registry, from the beginning where memory was refused for the registry, and reports what came of them.
-fn passes_agree<W: Log + Threads + Wait + Print + Copy + Sync + Drop>(
-    rt: &W,
-    alloc: Global,
-) -> io::Result<bool> {
-    let course = match passes(rt, alloc) {
-        Ok(course) => course,
-        Err(_) => {
-            let course = passes(rt, alloc).unwrap_or(Course::new(false));
-            Course {
-                again: Some(0),
-                ..course
-            }
-        }
-    };
-    course.report(rt, "the passes of a shared registry")
-}
-
-// Reports the calls of each subject, each over what its maker makes, and passes of checks. Returns whether all agree.
+// Reports the calls of each subject. Returns whether all agree.
 fn all_agree<W: Log + Net + Threads + Wait + Print + Copy + Sync + Drop>(
     rt: &W,
     alloc: Global,
 ) -> io::Result<bool> {
-    let mut all = agree::<W, Alone<false>>(rt, alloc, "the calls of a shared registry", REGISTRY)?;
-    all &= agree::<W, Alone<true>>(rt, alloc, "those of a registry by address", REGISTRY)?;
-    all &= agree::<W, View>(rt, alloc, "the calls of a shared view", VIEW)?;
-    all &= agree::<W, Balancer<FNVHash>>(rt, alloc, "the calls of a shared balancer", BALANCER)?;
-    all &= agree::<W, Balancer<KetamaHashing>>(rt, alloc, "those of a configured one", BALANCER)?;
-    all &= agree::<W, Balancer<RoundRobin>>(rt, alloc, "those of one made of texts", TEXTS)?;
-    all &= agree::<W, Group>(rt, alloc, "the calls of a shared group", GROUP)?;
-    all &= passes_agree(rt, alloc)?;
+    let mut all = true;
+    for (made, name, rows) in &SUBJECTS {
+        all &= course_of(rt, alloc, *made, *rows).report(rt, *name)?;
+    }
     Ok(all)
 }
 

@@ -1,96 +1,95 @@
 //! The shared types whose calls are made while memory is refused.
-use crate::refused::{Call, Course, FIRST, Lists, Seen, Subject, Ticks, set_of};
+use crate::gates::take_gate;
+use crate::passes::pass;
+use crate::refused::{Call, Cells, Course, Seen, Served};
+use crate::refused_found::{ByWeight, FIRST, Found, Lists, OTHER, Ticks, set_of};
 use lb_balancer::load_balancer::LoadBalancer;
 use lb_balancer_core::turn::{Turn, worker_turn};
 use lb_balancer_group::group::LoadBalancerGroup;
-use lb_crowd::crowd::NoCheck;
 use lb_health_core::health_check::HealthCheck;
 use lb_health_core::keys::{KeyRule, Rule};
 use lb_health_view::discovery::DiscoverySource;
-use lb_select::ketama::{KetamaConfig, KetamaHashing};
-use lb_select::selection::{FNVHash, RoundRobin};
+use lb_script::kinds::{Chosen, Kind};
 use lb_select_base::backend::Backend;
 use lb_select_base::refusal::Refusal;
 use lb_select_base::walk::BackendSelection;
-use lb_threads_core::backends::{BackendView, Backends};
+use lb_threads_core::backends::Backends;
 use lb_threads_core::gate::SelectorRebuildGate;
 use lb_threads_core::keyed::NoRule;
 use lb_threads_core::registry::HealthRegistry;
 use lb_threads_group::group::SharedGroup;
 use lb_threads_group::port::LockedPort;
+use log::Log;
 use std::alloc::Global;
 use std::net::Net;
+use std::sync::atomic::AtomicU64;
 use std::sync::atomic::Ordering::SeqCst;
-use std::sync::atomic::{AtomicBool, AtomicU64};
 use std::sync::{Arc, Wait};
-
-// How many cells the calls give, or more.
-const CELLS: u64 = 8;
+use std::thread::Threads;
 
 // How long after one turn the next one is taken, in nanoseconds.
 const SECOND: u64 = 1_000_000_000;
 
-type Registry = HealthRegistry<Rule<NoRule>, NoCheck>;
+type Registry = HealthRegistry<Rule<NoRule>, ByWeight>;
 
-type Found = Backends<Lists, Rule<NoRule>, NoCheck>;
+type View = Backends<Lists, Rule<NoRule>, ByWeight>;
 
-/// A view over a shared registry.
-pub type View = BackendView<Lists, Rule<NoRule>, NoCheck>;
+type Balancer = LoadBalancer<Chosen, Lists, Rule<NoRule>, ByWeight>;
 
-/// A balancer that threads may share: by `FNVHash` it has the default configuration, by `KetamaHashing` a given one, and by `RoundRobin` it
-/// is made of texts, over a registry of its own.
-pub type Balancer<S> = LoadBalancer<S, Lists, Rule<NoRule>, NoCheck>;
+type Group = LoadBalancerGroup<Chosen, Lists, Rule<NoRule>, ByWeight>;
 
-/// A group of one slot that threads may share, without workers.
-pub type Group = LoadBalancerGroup<FNVHash, Lists, Rule<NoRule>, NoCheck>;
-
-/// A registry alone, by identity or by address.
-#[derive(Drop)]
-pub struct Alone<const BY_ADDRESS: bool> {
-    registry: Registry,
+/// What can be made over a site.
+#[derive(Clone, Copy)]
+pub enum Made {
+    /// A registry alone, by identity.
+    Registry,
+    /// A registry alone, by address.
+    ByAddress,
+    /// A view over a shared registry.
+    View,
+    /// A balancer that threads may share, with the default configuration.
+    Balancer,
+    /// A balancer with a given configuration.
+    Configured,
+    /// A balancer that is made of texts, over a registry of its own.
+    OfTexts,
+    /// A group of one slot that threads may share, without workers.
+    Group,
+    /// A registry with a check, and a view of three backends.
+    Checked,
 }
 
-/// A registry, and what says which list a discovery over it finds.
+// What was made.
 #[derive(Drop)]
-pub struct Site<W> {
+enum Subject {
+    Registry(Registry),
+    View(View),
+    Balancer(Balancer),
+    Group(Group),
+}
+
+// A registry, and what says which list a discovery over it finds, and which backends a check.
+#[derive(Drop)]
+struct Site<W> {
     rt: W,
     alloc: Global,
     registry: Arc<Registry>,
-    other: Arc<AtomicBool>,
+    found: Arc<Found>,
     // The moment of the next turn.
     moment: AtomicU64,
 }
 
-impl<W: Wait> Site<W> {
-    fn new(rt: W, alloc: Global) -> Result<Site<W>, Refusal>
-    where
-        W: Drop,
-    {
+impl<W: Wait + Drop> Site<W> {
+    fn new(rt: W, alloc: Global) -> Result<Site<W>, Refusal> {
+        let registry = Arc::new(alloc, HealthRegistry::new(alloc)?)?;
+        let found = Arc::new(alloc, Found::new())?;
         Ok(Site {
             rt,
             alloc,
-            registry: Arc::new(alloc, HealthRegistry::new(alloc)?)?,
-            other: Arc::new(alloc, AtomicBool::new(false))?,
+            registry,
+            found,
             moment: AtomicU64::new(0),
         })
-    }
-
-    // A view of a discovery over the registry.
-    fn found(&self) -> Result<Found, Refusal> {
-        let lists = Lists {
-            other: Arc::try_clone(&self.other)?,
-        };
-        Backends::new_with_health_registry(
-            &self.rt,
-            self.alloc,
-            DiscoverySource::Boxed(lists),
-            Arc::try_clone(&self.registry)?,
-        )
-    }
-
-    // How many targets the registry has.
-    fn targets(&self) -> Option<usize> {
-        target_count(&self.rt, self.alloc, &self.registry)
     }
 }
 
@@ -102,89 +101,103 @@ fn target_count<W: Wait>(rt: &W, alloc: Global, registry: &Registry) -> Option<u
     }
 }
 
-/// What can be made over a site.
-pub trait Made: Sized {
-    /// Makes it.
-    fn make<W: Net + Wait>(site: &Site<W>) -> Result<Self, Refusal>;
-}
-
-impl<const BY_ADDRESS: bool> Made for Alone<BY_ADDRESS> {
-    fn make<W: Net + Wait>(site: &Site<W>) -> Result<Alone<BY_ADDRESS>, Refusal> {
-        let registry = if BY_ADDRESS {
-            HealthRegistry::by_address(site.alloc)?
-        } else {
-            HealthRegistry::new(site.alloc)?
+impl<W: Net + Wait> Site<W> {
+    // A view of a discovery over the registry.
+    fn view(&self) -> Result<View, Refusal> {
+        let lists = Lists {
+            found: Arc::try_clone(&self.found)?,
         };
-        Ok(Alone { registry })
+        let registry = Arc::try_clone(&self.registry)?;
+        let found = DiscoverySource::Boxed(lists);
+        Backends::new_with_health_registry(&self.rt, self.alloc, found, registry)
     }
-}
 
-impl Made for View {
-    fn make<W: Net + Wait>(site: &Site<W>) -> Result<View, Refusal> {
-        site.found()
+    // A balancer with this configuration, or with the default one.
+    fn balancer(&self, config: Option<Kind>) -> Result<Balancer, Refusal> {
+        LoadBalancer::from_backends_with_config(&self.rt, self.alloc, self.view()?, config)
     }
-}
 
-impl Made for Balancer<FNVHash> {
-    fn make<W: Net + Wait>(site: &Site<W>) -> Result<Balancer<FNVHash>, Refusal> {
-        LoadBalancer::from_backends(&site.rt, site.alloc, site.found()?)
-    }
-}
-
-impl Made for Balancer<KetamaHashing> {
-    fn make<W: Net + Wait>(site: &Site<W>) -> Result<Balancer<KetamaHashing>, Refusal> {
-        let config = KetamaConfig {
-            point_multiple: None,
-        };
-        LoadBalancer::from_backends_with_config(&site.rt, site.alloc, site.found()?, Some(config))
-    }
-}
-
-impl Made for Balancer<RoundRobin> {
-    fn make<W: Net + Wait>(site: &Site<W>) -> Result<Balancer<RoundRobin>, Refusal> {
-        let (rt, alloc) = (&site.rt, site.alloc);
+    // A balancer that is made of the first list's addresses.
+    fn balancer_of_texts(&self) -> Result<Balancer, Refusal> {
         let texts = FIRST.iter().map(|(address, _)| *address);
-        LoadBalancer::try_from_iter(rt, alloc, rt, texts, &mut Ticks { next: 10 })
+        let mut ticks = Ticks { next: 10 };
+        LoadBalancer::try_from_iter(&self.rt, self.alloc, &self.rt, texts, &mut ticks)
     }
-}
 
-impl Made for Group {
-    fn make<W: Net + Wait>(site: &Site<W>) -> Result<Group, Refusal> {
-        let (rt, alloc) = (&site.rt, site.alloc);
+    // A group that was given a gate.
+    fn group(&self) -> Result<Group, Refusal> {
+        let (rt, alloc) = (&self.rt, self.alloc);
         let mut configs = Vec::new(alloc);
         configs.push(None)?;
-        let mut group: Group = LoadBalancerGroup::from_backends_with_configs(
-            rt,
-            alloc,
-            site.found()?,
-            configs,
-        )?;
+        let view = self.view()?;
+        let mut group = LoadBalancerGroup::from_backends_with_configs(rt, alloc, view, configs)?;
         let gate = Arc::new(alloc, SelectorRebuildGate::new(alloc)?)?;
-        match group.with_rebuild_gate(rt, alloc, gate) {
-            Ok(()) => Ok(group),
-            Err(_) => Err(Refusal::OutOfMemory),
+        take_gate(rt, alloc, &mut group, &gate)?;
+        Ok(group)
+    }
+
+    // A registry with a check, and a view of three backends.
+    fn checked(&self) -> Result<Registry, Refusal> {
+        let (rt, alloc) = (&self.rt, self.alloc);
+        let registry: Registry = HealthRegistry::new(alloc)?;
+        let id = registry.register_view(rt, alloc)?;
+        registry.update_view(rt, alloc, id, set_of(alloc, OTHER)?)?;
+        let found = Arc::try_clone(&self.found)?;
+        registry.set_health_check(rt, ByWeight { found })?;
+        Ok(registry)
+    }
+
+    fn subject(&self, made: Made) -> Result<Subject, Refusal> {
+        Ok(match made {
+            Made::Registry => Subject::Registry(HealthRegistry::new(self.alloc)?),
+            Made::ByAddress => Subject::Registry(HealthRegistry::by_address(self.alloc)?),
+            Made::View => Subject::View(self.view()?),
+            Made::Balancer => Subject::Balancer(self.balancer(None)?),
+            Made::Configured => Subject::Balancer(self.balancer(Some(Kind::Ketama))?),
+            Made::OfTexts => Subject::Balancer(self.balancer_of_texts()?),
+            Made::Group => Subject::Group(self.group()?),
+            Made::Checked => Subject::Registry(self.checked()?),
+        })
+    }
+
+    // Makes a subject, again where that was refused: then the registry has no targets.
+    fn made(&self, made: Made) -> (Option<Subject>, Course) {
+        match self.subject(made) {
+            Ok(subject) => (Some(subject), Course::new(true)),
+            Err(_) => {
+                let is_empty = target_count(&self.rt, self.alloc, &self.registry) == Some(0);
+                (self.subject(made).ok(), Course::made_again(is_empty))
+            }
         }
     }
 }
 
 /// What calls are made of, over a registry of its own.
-#[derive(Drop)]
-pub struct Calls<W, T> {
+pub struct Calls<W: Drop> {
     site: Site<W>,
-    subject: T,
+    subject: Subject,
 }
 
-impl<W: Net + Wait + Copy + Drop, T: Made + Drop> Calls<W, T> {
+impl<W: Drop> Drop for Calls<W> {
+    fn drop(self) {
+        let Calls {
+            site: _,
+            subject: _,
+        } = self;
+    }
+}
+
+impl<W: Net + Wait + Copy + Drop> Calls<W> {
     /// Makes the subject, again where memory was refused for it, and returns what came of that.
-    pub fn new(rt: W, alloc: Global) -> (Option<Calls<W, T>>, Course) {
-        let made = match Site::new(rt, alloc) {
-            Ok(site) => Ok(site),
-            Err(_) => Site::new(rt, alloc),
+    pub fn new(rt: W, alloc: Global, made: Made) -> (Option<Calls<W>>, Course) {
+        let site = match Site::new(rt, alloc) {
+            Ok(site) => Some(site),
+            Err(_) => Site::new(rt, alloc).ok(),
         };
-        let Ok(site) = made else {
+        let Some(site) = site else {
             return (None, Course::new(false));
         };
-        let (made, course) = made_in(&site);
+        let (made, course) = site.made(made);
         match made {
             Some(subject) => (Some(Calls { site, subject }), course),
             None => (None, course),
@@ -192,44 +205,147 @@ impl<W: Net + Wait + Copy + Drop, T: Made + Drop> Calls<W, T> {
     }
 }
 
-// Makes a subject, again where that was refused: then the registry has no targets.
-fn made_in<W: Net + Wait, T: Made>(site: &Site<W>) -> (Option<T>, Course) {
-    match T::make(site) {
-        Ok(subject) => (Some(subject), Course::new(true)),
-        Err(_) => {
-            let course = Course::made_again(site.targets() == Some(0));
-            (T::make(site).ok(), course)
+impl<W: Wait + Drop> Calls<W> {
+    /// Reads what can be read; once more, where that is refused.
+    pub fn seen(&self) -> Option<Seen> {
+        let site = &self.site;
+        let served = match &self.subject {
+            Subject::Registry(registry) => {
+                let cells = site.cells(registry)?;
+                return Some(Seen {
+                    cells,
+                    served: None,
+                });
+            }
+            Subject::View(view) => site.served_by_view(view)?,
+            Subject::Balancer(balancer) => site.served_by_balancer(balancer)?,
+            Subject::Group(group) => site.served_by_group(group)?,
+        };
+        Some(Seen {
+            cells: site.cells(&site.registry)?,
+            served: Some(served),
+        })
+    }
+
+    /// Returns whether a backend is ready.
+    pub fn is_ready(&self, backend: &Backend) -> bool {
+        let rt = &self.site.rt;
+        match &self.subject {
+            Subject::Registry(_) => false,
+            Subject::View(view) => view.ready(rt, backend),
+            Subject::Balancer(balancer) => balancer.backends().ready(rt, backend),
+            Subject::Group(group) => group.backends().ready(rt, backend),
+        }
+    }
+
+    /// Disables a backend.
+    pub fn disable(&self, backend: &Backend) {
+        let rt = &self.site.rt;
+        match &self.subject {
+            Subject::Registry(_) => {}
+            Subject::View(view) => view.set_enable(rt, backend, false),
+            Subject::Balancer(balancer) => balancer.backends().set_enable(rt, backend, false),
+            Subject::Group(group) => group.backends().set_enable(rt, backend, false),
+        }
+    }
+
+    /// Sets the load of a backend.
+    pub fn set_load(&self, backend: &Backend) -> Result<(), Refusal> {
+        let (rt, alloc) = (&self.site.rt, self.site.alloc);
+        match &self.subject {
+            Subject::Balancer(balancer) => balancer.set_load(rt, alloc, backend, 7),
+            Subject::Group(group) => group.set_load(rt, alloc, backend, 7),
+            _ => Err(Refusal::NoSuch),
         }
     }
 }
 
-impl<W: Wait, const BY_ADDRESS: bool> Subject for Calls<W, Alone<BY_ADDRESS>> {
-    fn seen(&self) -> Option<Seen> {
-        let (rt, alloc, registry) = (&self.site.rt, self.site.alloc, &self.subject.registry);
-        let mut ready: u64 = 0;
-        for cell in 0..CELLS {
-            if registry.cell_ready(rt, cell) {
-                ready = ready.saturating_add(1);
+impl<W: Log + Threads + Wait + Copy + Sync + Drop> Calls<W> {
+    /// Makes a call, of those without flags and loads.
+    pub fn make(&self, call: Call) -> Result<u64, Refusal> {
+        let site = &self.site;
+        match (call, &self.subject) {
+            (Call::Update(other), subject) => site.update(subject, other),
+            (Call::Turn, Subject::Group(group)) => site.turn(group),
+            (
+                Call::Pass {
+                    is_parallel,
+                    odd_fail,
+                },
+                Subject::Registry(registry),
+            ) => {
+                site.found.other.store(odd_fail, SeqCst);
+                pass(&site.rt, site.alloc, registry, is_parallel)?;
+                Ok(registry.changes())
             }
+            (_, Subject::Registry(registry)) => site.call(registry, call),
+            _ => Err(Refusal::NoSuch),
         }
-        Some(Seen {
-            newest: ready,
-            served: 0,
-            targets: target_count(rt, alloc, registry)?,
+    }
+}
+
+impl<W: Wait> Site<W> {
+    // What can be read of a registry.
+    fn cells(&self, registry: &Registry) -> Option<Cells> {
+        let mut ready = [false; 8];
+        let mut cell: u64 = 0;
+        for is_ready in ready.iter_mut() {
+            *is_ready = registry.cell_ready(&self.rt, cell);
+            cell = cell.saturating_add(1);
+        }
+        Some(Cells {
+            targets: target_count(&self.rt, self.alloc, registry)?,
+            ready,
+            flips: registry.changes(),
+            asked: self.found.asked.load(SeqCst),
+        })
+    }
+
+    fn served_by_view(&self, view: &View) -> Option<Served> {
+        let members = match view.get_backend(&self.rt) {
+            Ok(members) => members,
+            Err(_) => view.get_backend(&self.rt).ok()?,
+        };
+        Some(Served {
+            newest: view.generation(&self.rt),
+            served: members.len() as u64,
             selected: None,
             timing: None,
         })
     }
 
-    fn is_ready(&self, _backend: &Backend) -> bool {
-        false
+    fn served_by_balancer(&self, balancer: &Balancer) -> Option<Served> {
+        let (rt, alloc) = (&self.rt, self.alloc);
+        let selected = match balancer.select(rt, alloc, b"k", 1) {
+            Ok(selected) => selected,
+            Err(_) => balancer.select(rt, alloc, b"k", 1).ok()?,
+        };
+        let newest = balancer.backend_generation(rt);
+        Some(Served {
+            newest,
+            served: newest,
+            selected: selected.map(|backend| backend.weight),
+            timing: balancer.last_update_timing(rt),
+        })
     }
 
-    fn disable(&self, _backend: &Backend) {}
+    fn served_by_group(&self, group: &Group) -> Option<Served> {
+        let (rt, alloc) = (&self.rt, self.alloc);
+        let selected = match group.select(rt, alloc, 0, b"k", 1) {
+            Ok(selected) => selected,
+            Err(_) => group.select(rt, alloc, 0, b"k", 1).ok()?,
+        };
+        Some(Served {
+            newest: group.backend_generation(rt),
+            served: group.selector_generation(rt, 0)?,
+            selected: selected.map(|backend| backend.weight),
+            timing: group.last_update_timing(rt),
+        })
+    }
 
-    fn make(&self, call: Call) -> Result<u64, Refusal> {
-        let (rt, alloc) = (&self.site.rt, self.site.alloc);
-        let registry = &self.subject.registry;
+    // Makes a call of a registry.
+    fn call(&self, registry: &Registry, call: Call) -> Result<u64, Refusal> {
+        let (rt, alloc) = (&self.rt, self.alloc);
         match call {
             Call::Register => registry.register_view(rt, alloc),
             Call::Members(id, members) => {
@@ -239,89 +355,45 @@ impl<W: Wait, const BY_ADDRESS: bool> Subject for Calls<W, Alone<BY_ADDRESS>> {
             }
             Call::Targets => Ok(registry.target_count(rt, alloc)? as u64),
             Call::List => Ok(registry.targets(rt, alloc)?.len() as u64),
-            _ => Err(Refusal::NoSuch),
-        }
-    }
-}
-
-impl<W: Wait> Subject for Calls<W, View> {
-    fn seen(&self) -> Option<Seen> {
-        let rt = &self.site.rt;
-        let members = match self.subject.get_backend(rt) {
-            Ok(members) => members,
-            Err(_) => self.subject.get_backend(rt).ok()?,
-        };
-        Some(Seen {
-            newest: self.subject.generation(rt),
-            served: members.len() as u64,
-            targets: self.site.targets()?,
-            selected: None,
-            timing: None,
-        })
-    }
-
-    fn is_ready(&self, backend: &Backend) -> bool {
-        self.subject.ready(&self.site.rt, backend)
-    }
-
-    fn disable(&self, backend: &Backend) {
-        self.subject.set_enable(&self.site.rt, backend, false);
-    }
-
-    fn make(&self, call: Call) -> Result<u64, Refusal> {
-        let (rt, alloc) = (&self.site.rt, self.site.alloc);
-        match call {
-            Call::Update(other) => {
-                self.site.other.store(other, SeqCst);
-                self.subject.update(rt, alloc, |_members| ())?;
-                Ok(self.subject.generation(rt))
+            Call::Asked => Ok(self.found.asked.load(SeqCst)),
+            Call::Ready(wanted) => {
+                let cells = [
+                    registry.cell_ready(rt, 0),
+                    registry.cell_ready(rt, 1),
+                    registry.cell_ready(rt, 2),
+                ];
+                Ok(u64::from(cells == wanted))
             }
             _ => Err(Refusal::NoSuch),
         }
     }
-}
 
-impl<W: Wait, S: BackendSelection> Subject for Calls<W, Balancer<S>> {
-    fn seen(&self) -> Option<Seen> {
-        let (rt, alloc) = (&self.site.rt, self.site.alloc);
-        let selected = match self.subject.select(rt, alloc, b"k", 1) {
-            Ok(selected) => selected,
-            Err(_) => self.subject.select(rt, alloc, b"k", 1).ok()?,
-        };
-        let newest = self.subject.backend_generation(rt);
-        Some(Seen {
-            newest,
-            served: newest,
-            targets: self.site.targets()?,
-            selected: selected.map(|backend| backend.weight),
-            timing: self.subject.last_update_timing(rt),
-        })
-    }
-
-    fn is_ready(&self, backend: &Backend) -> bool {
-        self.subject.backends().ready(&self.site.rt, backend)
-    }
-
-    fn disable(&self, backend: &Backend) {
-        let (rt, alloc) = (&self.site.rt, self.site.alloc);
-        self.subject.backends().set_enable(rt, backend, false);
-    }
-
-    fn make(&self, call: Call) -> Result<u64, Refusal> {
-        let (rt, alloc) = (&self.site.rt, self.site.alloc);
-        match call {
-            Call::Update(other) => {
-                self.site.other.store(other, SeqCst);
-                self.subject.update(rt, alloc, &mut Ticks { next: 10 })?;
-                Ok(self.subject.backend_generation(rt))
+    // Has a subject discover the first list or the other one. Returns its newest generation.
+    fn update(&self, subject: &Subject, other: bool) -> Result<u64, Refusal> {
+        let (rt, alloc) = (&self.rt, self.alloc);
+        self.found.other.store(other, SeqCst);
+        let mut ticks = Ticks { next: 10 };
+        match subject {
+            Subject::Registry(_) => Err(Refusal::NoSuch),
+            Subject::View(view) => {
+                view.update(rt, alloc, |_members| ())?;
+                Ok(view.generation(rt))
             }
-            Call::Load => {
-                for backend in &set_of(alloc, FIRST)? {
-                    self.subject.set_load(rt, alloc, backend, 7)?;
-                }
-                Ok(0)
+            Subject::Balancer(balancer) => {
+                balancer.update(rt, alloc, &mut ticks)?;
+                Ok(balancer.backend_generation(rt))
             }
-            _ => Err(Refusal::NoSuch),
+            Subject::Group(group) => group.update(rt, alloc, &mut ticks),
+        }
+    }
+
+    // Takes a turn for the slot of a group, a second after the last one. Returns the generation that is published.
+    fn turn(&self, group: &Group) -> Result<u64, Refusal> {
+        let now = self.moment.fetch_add(SECOND, SeqCst);
+        match taken(&self.rt, self.alloc, &**group.shared(), now)? {
+            Turn::Published(generation) => Ok(generation),
+            Turn::Failed(_, refusal) => Err(refusal),
+            _ => Err(Refusal::NothingBuilt),
         }
     }
 }
@@ -338,59 +410,4 @@ fn taken<S: BackendSelection, R: KeyRule + Drop, C: HealthCheck + Drop, W: Wait>
         next: u128::from(now),
     };
     worker_turn(alloc, &mut port, 0, &mut clock)
-}
-
-// Takes a turn for the slot of a group, a second after the last one. Returns the generation that is published.
-fn turn<W: Wait>(site: &Site<W>, group: &Group) -> Result<u64, Refusal> {
-    let now = site.moment.fetch_add(SECOND, SeqCst);
-    match taken(&site.rt, site.alloc, &**group.shared(), now)? {
-        Turn::Published(generation) => Ok(generation),
-        Turn::Failed(_, refusal) => Err(refusal),
-        _ => Err(Refusal::NothingBuilt),
-    }
-}
-
-impl<W: Wait> Subject for Calls<W, Group> {
-    fn seen(&self) -> Option<Seen> {
-        let (rt, alloc) = (&self.site.rt, self.site.alloc);
-        let selected = match self.subject.select(rt, alloc, 0, b"k", 1) {
-            Ok(selected) => selected,
-            Err(_) => self.subject.select(rt, alloc, 0, b"k", 1).ok()?,
-        };
-        Some(Seen {
-            newest: self.subject.backend_generation(rt),
-            served: self.subject.selector_generation(rt, 0)?,
-            targets: self.site.targets()?,
-            selected: selected.map(|backend| backend.weight),
-            timing: self.subject.last_update_timing(rt),
-        })
-    }
-
-    fn is_ready(&self, backend: &Backend) -> bool {
-        self.subject.backends().ready(&self.site.rt, backend)
-    }
-
-    fn disable(&self, backend: &Backend) {
-        self.subject
-            .backends()
-            .set_enable(&self.site.rt, backend, false);
-    }
-
-    fn make(&self, call: Call) -> Result<u64, Refusal> {
-        let (rt, alloc) = (&self.site.rt, self.site.alloc);
-        match call {
-            Call::Update(other) => {
-                self.site.other.store(other, SeqCst);
-                self.subject.update(rt, alloc, &mut Ticks { next: 10 })
-            }
-            Call::Load => {
-                for backend in &set_of(alloc, FIRST)? {
-                    self.subject.set_load(rt, alloc, backend, 7)?;
-                }
-                Ok(0)
-            }
-            Call::Turn => turn(&self.site, &self.subject),
-            _ => Err(Refusal::NoSuch),
-        }
-    }
 }
