@@ -22,6 +22,12 @@ type Registry<C> = HealthRegistry<Rule<NoRule>, C>;
 
 type Group<C> = LoadBalancerGroup<RoundRobin, BoxedDiscovery, Rule<NoRule>, C>;
 
+// The address of a server, as a text.
+fn address_of<R: Net + AllocGlobal>(rt: &R, server: &R::Listener) -> Result<String, anyhow::Error> {
+    let address = server.local_addr()?;
+    Ok(format!(in rt.alloc(); "{address}")?)
+}
+
 // Makes a group with two slots over the servers at these addresses, starts its workers, and updates it once.
 fn group_of<R, C>(
     rt: R,
@@ -34,23 +40,43 @@ where
     C: HealthCheck + Drop + Send + Sync + 'static,
 {
     let alloc = rt.alloc();
-    let mut configs = Vec::new(alloc);
-    configs.push(None)?;
-    configs.push(None)?;
-    let (registry, gate) = (Arc::try_clone(registry)?, Arc::try_clone(gate)?);
     let found = Static::try_from_iter(alloc, &rt, texts.iter().copied())?;
     let found = DiscoverySource::Static(found);
+    let registry = Arc::try_clone(registry)?;
     let backends: Backends<BoxedDiscovery, Rule<NoRule>, C> = Backends::new_with_health_registry(
         &rt, alloc, found, registry,
     )?;
+    let configs = Vec::from_array(alloc, [None, None])?;
     let mut group: Group<C> = LoadBalancerGroup::from_backends_with_configs(
         &rt, alloc, backends, configs,
     )?;
-    group.with_rebuild_gate(&rt, alloc, gate)?;
+    group.with_rebuild_gate(&rt, alloc, Arc::try_clone(gate)?)?;
     let mut clock = RuntimeClock::new(rt);
     let _ = group.start_workers(&rt, alloc, clock);
     group.update(&rt, alloc, &mut clock)?;
     Ok(group)
+}
+
+// Makes two groups on one gate, over the first two and the last two of these servers.
+fn groups_of<R, C>(
+    rt: &R,
+    servers: [&R::Listener; 3],
+    registry: &Arc<Registry<C>>,
+) -> Result<[Group<C>; 2], anyhow::Error>
+where
+    R: Log + Net + Threads + Wait + Clock,
+    R: AllocGlobal + Copy + Send + Sync + Drop + 'static,
+    C: HealthCheck + Drop + Send + Sync + 'static,
+{
+    let alloc = rt.alloc();
+    let [first, both, last] = servers;
+    let first = address_of(rt, first)?;
+    let both = address_of(rt, both)?;
+    let last = address_of(rt, last)?;
+    let gate = Arc::new(alloc, SelectorRebuildGate::new(alloc)?)?;
+    let one = group_of(*rt, [first.as_str(), both.as_str()], registry, &gate)?;
+    let other = group_of(*rt, [both.as_str(), last.as_str()], registry, &gate)?;
+    Ok([one, other])
 }
 
 // Makes four requests to each slot. Returns how many servers they went to.
@@ -146,23 +172,15 @@ where
     C: HealthCheck + Drop + Send + Sync + 'static,
 {
     let alloc = rt.alloc();
-    let first = TcpListener::bind(rt, "127.0.0.1:0")?;
-    let both = TcpListener::bind(rt, "127.0.0.1:0")?;
-    let last = TcpListener::bind(rt, "127.0.0.1:0")?;
-    let first_text = format!(in alloc; "{}", first.local_addr()?)?;
-    let both_text = format!(in alloc; "{}", both.local_addr()?)?;
-    let last_text = format!(in alloc; "{}", last.local_addr()?)?;
-    let (mut signal, watch) = shutdown_pair(alloc)?;
-    let gate = Arc::new(alloc, SelectorRebuildGate::new(alloc)?)?;
     let registry: Registry<C> = HealthRegistry::new(alloc)?;
     let registry = Arc::new(alloc, registry)?;
     registry.set_health_check(rt, check)?;
     let mut service = HealthCheckService::new(Arc::try_clone(&registry)?);
     service.health_check_frequency = Some(100_000_000);
-    let texts = [first_text.as_str(), both_text.as_str()];
-    let one = group_of(*rt, texts, &registry, &gate)?;
-    let texts = [both_text.as_str(), last_text.as_str()];
-    let other = group_of(*rt, texts, &registry, &gate)?;
-    let groups = [one, other];
+    let (mut signal, watch) = shutdown_pair(alloc)?;
+    let first = TcpListener::bind(rt, "127.0.0.1:0")?;
+    let both = TcpListener::bind(rt, "127.0.0.1:0")?;
+    let last = TcpListener::bind(rt, "127.0.0.1:0")?;
+    let groups = groups_of(rt, [&first, &both, &last], &registry)?;
     run_beside(rt, &service, &groups, both, &mut signal, &watch)
 }

@@ -17,6 +17,12 @@ use std::time::{Clock, Duration};
 // A balancer in turn, with checks of this type.
 type Balancer<C> = LoadBalancer<RoundRobin, BoxedDiscovery, Rule<NoRule>, C>;
 
+// The address of a server, as a text.
+fn address_of<R: Net + AllocGlobal>(rt: &R, server: &R::Listener) -> Result<String, anyhow::Error> {
+    let address = server.local_addr()?;
+    Ok(format!(in rt.alloc(); "{address}")?)
+}
+
 // Makes a request in each of four threads. Returns how many servers they went to.
 fn servers_used<R, C>(rt: &R, balancer: &Balancer<C>) -> Result<usize, anyhow::Error>
 where
@@ -108,8 +114,8 @@ where
     let alloc = rt.alloc();
     let first = TcpListener::bind(rt, "127.0.0.1:0")?;
     let second = TcpListener::bind(rt, "127.0.0.1:0")?;
-    let one_text = format!(in alloc; "{}", first.local_addr()?)?;
-    let other_text = format!(in alloc; "{}", second.local_addr()?)?;
+    let one_text = address_of(rt, &first)?;
+    let other_text = address_of(rt, &second)?;
     let texts = [one_text.as_str(), other_text.as_str()];
     let (mut signal, watch) = shutdown_pair(alloc)?;
     let mut clock = RuntimeClock::new(rt);

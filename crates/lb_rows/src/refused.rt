@@ -112,25 +112,33 @@ fn answered(
     }
 }
 
+/// What an asked slot answers: until when it waits, which build it grants, or something else.
+#[derive(Clone, Copy)]
+enum Asked {
+    Wait(u128),
+    Build(u64),
+    Another,
+}
+
+// What the slot answers at that moment.
+fn ask(world: &mut World<Chosen>, group: u64, slot: usize, now: u128) -> Asked {
+    match world.step(Step::Ask { group, slot, now }) {
+        Answer::Wait(moment) => Asked::Wait(moment),
+        Answer::Build(generation) => Asked::Build(generation),
+        _ => Asked::Another,
+    }
+}
+
 // The answer to a build that is given again: it waits until it is due, and is granted and run then.
 fn built_again(world: &mut World<Chosen>, build: &Step<Kind>, generation: u64) -> Option<Answer> {
     let Step::Build { group, slot, now } = build else {
         return None;
     };
     let (group, slot, due) = (*group, *slot, now.saturating_add(DELAY));
-    let early = due.saturating_sub(1);
-    let waits = world.step(Step::Ask {
-        group,
-        slot,
-        now: early,
-    });
-    let granted = world.step(Step::Ask {
-        group,
-        slot,
-        now: due,
-    });
+    let waits = ask(world, group, slot, due.saturating_sub(1));
+    let granted = ask(world, group, slot, due);
     match (waits, granted) {
-        (Answer::Wait(moment), Answer::Build(asked)) if moment == due && asked == generation => {
+        (Asked::Wait(moment), Asked::Build(build)) if moment == due && build == generation => {
             let now = due.saturating_add(1);
             Some(world.step(Step::Build { group, slot, now }))
         }

@@ -158,21 +158,31 @@ fn served((_other, newest, weight, took, cells): Update) -> Seen {
 
 type Balancer<'a> = LoadBalancerCore<FNVHash, Pcg64, Lists<'a>>;
 
+// The weight of what is selected.
+fn selected_of_balancer(
+    alloc: Global,
+    balancer: &mut Balancer<'_>,
+    registry: &RegistryCore,
+) -> Result<Option<usize>, Refusal> {
+    let selected = balancer.select(alloc, registry, b"k", 1)?;
+    Ok(selected.map(|backend| backend.weight))
+}
+
 // What is read of a balancer.
 fn seen_of_balancer(
     alloc: Global,
     balancer: &mut Balancer<'_>,
     registry: &RegistryCore,
 ) -> Option<Seen> {
-    let selected = match balancer.select(alloc, registry, b"k", 1) {
+    let selected = match selected_of_balancer(alloc, balancer, registry) {
         Ok(selected) => selected,
-        Err(_) => balancer.select(alloc, registry, b"k", 1).ok()?,
+        Err(_) => selected_of_balancer(alloc, balancer, registry).ok()?,
     };
     let newest = balancer.served.generation();
     Some(Seen {
         newest,
         served: newest,
-        selected: selected.map(|backend| backend.weight),
+        selected,
         timing: balancer.last_update_timing(),
         left: registry.numbers_left(),
     })
@@ -211,42 +221,62 @@ fn new_balancer<'a>(
     LoadBalancerCore::from_backends(alloc, registry, source, Pcg64::new(1, 2))
 }
 
+// A balancer, which is made again where memory was refused for it.
+fn balancer_again<'a>(
+    alloc: Global,
+    registry: &mut RegistryCore,
+    other: &'a Cell<bool>,
+    course: &mut Course,
+) -> Result<Balancer<'a>, Refusal> {
+    match new_balancer(alloc, registry, other) {
+        Err(Refusal::OutOfMemory) => {
+            course.refused(!registry.has_view(1));
+            new_balancer(alloc, registry, other)
+        }
+        made => made,
+    }
+}
+
 /// Returns whether a balancer's calls agree, and which of them was given again.
 pub(crate) fn balancer_agrees(alloc: Global) -> (bool, Again) {
     let other = Cell::new(false);
     let mut registry = RegistryCore::new(alloc);
     let mut course = Course::new();
-    let mut made = new_balancer(alloc, &mut registry, &other);
-    if is_for_memory(&made) {
-        course.refused(!registry.has_view(1));
-        made = new_balancer(alloc, &mut registry, &other);
-    }
-    if let Ok(balancer) = &mut made {
+    if let Ok(mut balancer) = balancer_again(alloc, &mut registry, &other, &mut course) {
         course.done(balancer.served.id() == 1);
-        updates(alloc, balancer, &mut registry, &other, &mut course);
+        updates(alloc, &mut balancer, &mut registry, &other, &mut course);
     }
     course.told()
 }
 
 type Group<'a> = LoadBalancerGroupCore<FNVHash, Lists<'a>>;
 
+// The weight of what is selected in a group of one slot.
+fn selected_of_group(
+    alloc: Global,
+    group: &mut Group<'_>,
+    registry: &RegistryCore,
+) -> Result<Option<usize>, Refusal>
+    requires { registry.now.id ≡ group.old.group.registry }
+    ensures { SameSite group.old.group group.new.group }
+{
+    let selected = group.select(alloc, registry, 0, b"k", 1, &[]).answer?;
+    Ok(selected.map(|backend| backend.weight))
+}
+
 // What is read of a group of one slot.
 fn seen_of_group(alloc: Global, group: &mut Group<'_>, registry: &RegistryCore) -> Option<Seen>
     requires { registry.now.id ≡ group.old.group.registry }
     ensures { SameSite group.old.group group.new.group }
 {
-    let first = group.select(alloc, registry, 0, b"k", 1, &[]);
-    let selected = match first.answer {
+    let selected = match selected_of_group(alloc, group, registry) {
         Ok(selected) => selected,
-        Err(_) => {
-            let second = group.select(alloc, registry, 0, b"k", 1, &[]);
-            second.answer.ok()?
-        }
+        Err(_) => selected_of_group(alloc, group, registry).ok()?,
     };
     Some(Seen {
         newest: group.backend_generation(),
         served: group.selector_generation(0)?,
-        selected: selected.map(|backend| backend.weight),
+        selected,
         timing: group.last_update_timing(),
         left: registry.numbers_left(),
     })
@@ -374,18 +404,34 @@ fn new_group<'a>(
     LoadBalancerGroupCore::from_backends_with_configs(alloc, registry, gate, source, configs)
 }
 
+// A group, which is made again where memory was refused for it.
+fn group_again<'a>(
+    alloc: Global,
+    registry: &mut RegistryCore,
+    gate: &GateCore,
+    other: &'a Cell<bool>,
+    course: &mut Course,
+) -> Result<Group<'a>, Refusal>
+    ensures gate { IfOk result (λ b. b.group.group.gate ≡ gate.now.id) }
+    ensures site { IfOk result (λ b. b.group.registry ≡ registry.old.id) }
+    ensures one_registry { registry.new.id ≡ registry.old.id }
+{
+    match new_group(alloc, registry, gate, other) {
+        Err(Refusal::OutOfMemory) => {
+            course.refused(!registry.has_view(1));
+            new_group(alloc, registry, gate, other)
+        }
+        made => made,
+    }
+}
+
 // A group's calls on that gate.
 fn group_agrees_on(alloc: Global, gate: &mut GateCore, course: &mut Course) {
     let other = Cell::new(false);
     let mut registry = RegistryCore::new(alloc);
-    let mut made = new_group(alloc, &mut registry, gate, &other);
-    if is_for_memory(&made) {
-        course.refused(!registry.has_view(1));
-        made = new_group(alloc, &mut registry, gate, &other);
-    }
-    if let Ok(group) = &mut made {
+    if let Ok(mut group) = group_again(alloc, &mut registry, gate, &other, course) {
         course.done(group.backend_generation() == 0);
-        updates_of_group(alloc, group, &mut registry, gate, &other, course);
+        updates_of_group(alloc, &mut group, &mut registry, gate, &other, course);
     }
 }
 

@@ -51,18 +51,20 @@ fn checked(
 #[test]
 fn boxes_are_called(rt: HostRuntime) -> Result<(), Fail> {
     let alloc = rt.alloc();
+    let found = Static::new(set_of(alloc, &[("127.0.0.1:1", 7)])?);
+    let found: BoxedDiscovery = Box::new(alloc, found)?;
+    let source = DiscoverySource::Boxed(found);
+    let plain: BoxedCheck = Box::new(alloc, TcpHealthCheck::new(rt))?;
     let told = Arc::new(alloc, AtomicU64::new(0))?;
     let adds = Adds {
         told: Arc::try_clone(&told)?,
     };
     let observer: HealthObserveCallback = Box::new(alloc, adds)?;
     let check = TcpHealthCheck::new(rt).with_callbacks(Some(observer), IdentitySummary);
-    let found = Static::new(set_of(alloc, &[("127.0.0.1:1", 7)])?);
-    let found: BoxedDiscovery = Box::new(alloc, found)?;
-    let source = DiscoverySource::Boxed(found);
-    let ready = checked(alloc, &source, &check, &rt);
-    let plain: BoxedCheck = Box::new(alloc, TcpHealthCheck::new(rt))?;
-    let ready = [ready, checked(alloc, &source, &plain, &rt)];
+    let ready = [
+        checked(alloc, &source, &check, &rt),
+        checked(alloc, &source, &plain, &rt),
+    ];
     assert_same(
         &rt,
         &(ready, told.load(SeqCst)),
