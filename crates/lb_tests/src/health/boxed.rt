@@ -33,7 +33,7 @@ impl HealthObserve for Adds {
 }
 
 // Updates a new view by the discovery, and checks its first backend; whether that is ready before and after.
-fn checked(
+fn checked_by(
     alloc: Global,
     source: &DiscoverySource<BoxedDiscovery>,
     check: &impl HealthCheck,
@@ -47,13 +47,17 @@ fn checked(
     Ok([before, is_ready(&registry, &view)])
 }
 
+// The same by a boxed discovery of a backend where nobody listens.
+fn checked(alloc: Global, check: &impl HealthCheck, log: &impl Log) -> Result<[bool; 2], Refusal> {
+    let found = Static::new(set_of(alloc, &[("127.0.0.1:1", 7)])?);
+    let found: BoxedDiscovery = Box::new(alloc, found)?;
+    checked_by(alloc, &DiscoverySource::Boxed(found), check, log)
+}
+
 // Where nobody listens, what the discovery found becomes unhealthy, and the observer is told so once.
 #[test]
 fn boxes_are_called(rt: HostRuntime) -> Result<(), Fail> {
     let alloc = rt.alloc();
-    let found = Static::new(set_of(alloc, &[("127.0.0.1:1", 7)])?);
-    let found: BoxedDiscovery = Box::new(alloc, found)?;
-    let source = DiscoverySource::Boxed(found);
     let plain: BoxedCheck = Box::new(alloc, TcpHealthCheck::new(rt))?;
     let told = Arc::new(alloc, AtomicU64::new(0))?;
     let adds = Adds {
@@ -61,10 +65,7 @@ fn boxes_are_called(rt: HostRuntime) -> Result<(), Fail> {
     };
     let observer: HealthObserveCallback = Box::new(alloc, adds)?;
     let check = TcpHealthCheck::new(rt).with_callbacks(Some(observer), IdentitySummary);
-    let ready = [
-        checked(alloc, &source, &check, &rt),
-        checked(alloc, &source, &plain, &rt),
-    ];
+    let ready = [checked(alloc, &check, &rt), checked(alloc, &plain, &rt)];
     assert_same(
         &rt,
         &(ready, told.load(SeqCst)),
