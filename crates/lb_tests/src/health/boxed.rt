@@ -32,7 +32,22 @@ impl HealthObserve for Adds {
     }
 }
 
-// Updates a new view by the discovery, and checks its first backend; whether that is ready before and after.
+// Updates the view by the discovery, and checks its first backend; whether that is ready before and after.
+fn passed(
+    alloc: Global,
+    source: &DiscoverySource<BoxedDiscovery>,
+    registry: &mut RegistryCore,
+    view: &mut ViewCore,
+    check: &impl HealthCheck,
+    log: &impl Log,
+) -> Result<[bool; 2], Refusal> {
+    update_by(alloc, source, registry, view)?;
+    let before = is_ready(registry, view);
+    run_health_check(log, alloc, registry, check)?;
+    Ok([before, is_ready(registry, view)])
+}
+
+// The same of a new view. What owns the view makes one call.
 fn checked_by(
     alloc: Global,
     source: &DiscoverySource<BoxedDiscovery>,
@@ -41,10 +56,7 @@ fn checked_by(
 ) -> Result<[bool; 2], Refusal> {
     let mut registry = RegistryCore::new(alloc);
     let mut view = ViewCore::register(alloc, &mut registry)?;
-    update_by(alloc, source, &mut registry, &mut view)?;
-    let before = is_ready(&registry, &view);
-    run_health_check(log, alloc, &mut registry, check)?;
-    Ok([before, is_ready(&registry, &view)])
+    passed(alloc, source, &mut registry, &mut view, check, log)
 }
 
 // The same by a boxed discovery of a backend where nobody listens.
