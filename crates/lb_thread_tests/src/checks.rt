@@ -1,4 +1,5 @@
 //! Passes of checks over a registry that threads share.
+use crate::asserted::assert_same;
 use log::Log;
 use pingora_load_balancing::health_check::{
     CheckError, HealthCheck, KeyedRegistry, NoRule, Rule, keyed_by_identity,
@@ -99,88 +100,91 @@ fn backends_from<R: Abort>(rt: &R, alloc: Global, least: usize) -> BTreeSet<Back
     set
 }
 
-// The registry with a view of three backends, of weights 1 to 3.
-fn three_targets<R: Abort>(rt: &R, alloc: Global, registry: KeyedRegistry) -> KeyedRegistry {
-    let mut registry = registry;
+// A registry with a check of this type.
+type Registry<R> = HealthRegistry<Rule<NoRule>, Meeting<R>>;
+
+// A registry, and what its checks count.
+struct Bench<R: Drop> {
+    seen: Arc<Seen>,
+    registry: Registry<R>,
+}
+
+impl<R: Drop> Drop for Bench<R> {
+    fn drop(self) {
+        let Bench {
+            seen: _,
+            registry: _,
+        } = self;
+    }
+}
+
+// A plain registry with a view of three backends, of weights 1 to 3.
+fn three_targets<R: Abort>(rt: &R, alloc: Global) -> KeyedRegistry {
+    let mut registry = keyed_by_identity(alloc);
     let id = registry.register_view(alloc).expect(rt, "refused");
     let set = backends_from(rt, alloc, 1);
     registry.update_view(alloc, id, set).expect(rt, "refused");
     registry
 }
 
-// A registry with a check of this type.
-type Registry<R> = HealthRegistry<Rule<NoRule>, Meeting<R>>;
+impl<R: Abort + Wait + Clock + Copy + Drop> Bench<R> {
+    // A registry of three targets, whose check waits for so many turns.
+    fn new(rt: &R, alloc: Global, turns: usize) -> Bench<R> {
+        let registry = HealthRegistry::over(alloc, three_targets(rt, alloc));
+        let bench = Bench {
+            seen: Arc::new(alloc, Seen::new()).expect(rt, "refused"),
+            registry: registry.expect(rt, "refused"),
+        };
+        bench.set(rt, turns).expect(rt, "refused");
+        bench
+    }
 
-// Sets a check that waits for so many turns.
-fn set<R: Abort + Wait + Clock + Copy + Drop>(
-    rt: &R,
-    registry: &Registry<R>,
-    seen: &Arc<Seen>,
-    turns: usize,
-) -> Result<(), Refusal> {
-    let seen = Arc::try_clone(seen).expect(rt, "refused");
-    let check = Meeting {
-        rt: *rt,
-        turns,
-        seen,
-    };
-    registry.set_health_check(rt, check)
+    // Sets a check that waits for so many turns.
+    fn set(&self, rt: &R, turns: usize) -> Result<(), Refusal> {
+        let check = Meeting {
+            rt: *rt,
+            turns,
+            seen: Arc::try_clone(&self.seen).expect(rt, "refused"),
+        };
+        self.registry.set_health_check(rt, check)
+    }
 }
 
-// What a pass came to: what a second check was answered before it, how many checks there were, how many of them ran at the same time
-// (one, or two and more) and whether one had answered when that of weight 1 went on, how many targets there are, and which cells are
-// healthy.
-type Told = (Result<(), Refusal>, u64, [u64; 2], usize, [bool; 3]);
+// What a pass came to: whether a second check was refused before it, how many checks there were, how many of them ran at the same time (one,
+// or two and more) and whether one had answered when that of weight 1 went on, how many targets there are, and which cells are healthy.
+type Told = (bool, u64, [u64; 2], usize, [bool; 3]);
 
 // A pass with its checks at the same time or not, once a second check was set.
 fn passed<R: Abort + Log + Threads + Wait + Clock + Copy + Send + Sync + Drop>(
-    rt: R,
+    rt: &R,
     alloc: Global,
-    registry: &Registry<R>,
-    seen: &Arc<Seen>,
+    bench: &Bench<R>,
     parallel: bool,
 ) -> Told {
-    let second = set(&rt, registry, seen, 0);
+    let (seen, registry) = (&*bench.seen, &bench.registry);
+    let is_refused = bench.set(rt, 0) == Err(Refusal::HealthCheckSet);
     registry
-        .run_health_check(&rt, alloc, parallel)
-        .expect(&rt, "refused");
+        .run_health_check(rt, alloc, parallel)
+        .expect(rt, "refused");
     let healthy = [
-        registry.cell_ready(&rt, 0),
-        registry.cell_ready(&rt, 1),
-        registry.cell_ready(&rt, 2),
+        registry.cell_ready(rt, 0),
+        registry.cell_ready(rt, 1),
+        registry.cell_ready(rt, 2),
     ];
     let most = [seen.most.load(SeqCst).min(2), seen.before.load(SeqCst)];
-    let targets = registry.target_count(&rt, alloc).expect(&rt, "refused");
-    (second, seen.checks.load(SeqCst), most, targets, healthy)
-}
-
-// A pass over three targets of a registry of its own, whose check waits for so many turns.
-fn pass<R: Abort + Log + Threads + Wait + Clock + Copy + Send + Sync + Drop>(
-    rt: R,
-    alloc: Global,
-    parallel: bool,
-    turns: usize,
-) -> Told {
-    let seen = Arc::new(alloc, Seen::new()).expect(&rt, "refused");
-    let registry = three_targets(&rt, alloc, keyed_by_identity(alloc));
-    let registry: Registry<R> = HealthRegistry::over(alloc, registry).expect(&rt, "refused");
-    set(&rt, &registry, &seen, turns).expect(&rt, "refused");
-    passed(rt, alloc, &registry, &seen, parallel)
+    let targets = registry.target_count(rt, alloc).expect(rt, "refused");
+    (is_refused, seen.checks.load(SeqCst), most, targets, healthy)
 }
 
 // With `parallel` a check that is held goes on once another has answered, within a thousand turns of ten milliseconds; without it, no two
 // run at once. Each target is checked once, and each verdict reaches its cell. A second check is refused, and the first stays.
 #[test]
 fn passes_of_checks(rt: HostRuntime) {
-    for (parallel, turns, most) in [(true, 1000, [2, 1]), (false, 5, [1, 0])] {
-        let wanted = (
-            Err(Refusal::HealthCheckSet),
-            3,
-            most,
-            3,
-            [true, false, true],
-        );
-        assert_eq!(rt; pass(rt, rt.alloc(), parallel, turns), wanted);
+    for (parallel, turns, most) in &[(true, 1000, [2, 1]), (false, 5, [1, 0])] {
+        let bench = Bench::new(&rt, rt.alloc(), *turns);
+        let told = passed(&rt, rt.alloc(), &bench, *parallel);
+        let wanted = (true, 3, *most, 3, [true, false, true]);
+        assert_same(&rt, &told, &wanted, parallel);
     }
 }
 
@@ -208,13 +212,12 @@ fn removes<R: Abort + Wait + Clock + Drop>(
 fn passed_meanwhile<R: Abort + Log + Threads + Wait + Clock + Copy + Send + Sync + Drop>(
     rt: &R,
     alloc: Global,
-    registry: &Registry<R>,
-    seen: &Arc<Seen>,
+    bench: &Bench<R>,
 ) -> (bool, u64, usize, [bool; 5]) {
-    set(rt, registry, seen, 1000).expect(rt, "refused");
+    let (seen, registry) = (&*bench.seen, &bench.registry);
     let (removed, passed) = join(
         rt,
-        || removes(rt, alloc, registry, &**seen),
+        || removes(rt, alloc, registry, seen),
         || registry.run_health_check(rt, alloc, false),
     );
     let targets = registry.target_count(rt, alloc).expect(rt, "refused");
@@ -234,14 +237,9 @@ fn passed_meanwhile<R: Abort + Log + Threads + Wait + Clock + Copy + Send + Sync
 // come back have new cells.
 #[test]
 fn removed_while_checked(rt: HostRuntime) {
-    let alloc = rt.alloc();
-    let seen = Arc::new(alloc, Seen::new()).expect(&rt, "refused");
-    let registry = three_targets(&rt, alloc, keyed_by_identity(alloc));
-    let registry: Registry<HostRuntime> = HealthRegistry::over(alloc, registry).expect(
-        &rt, "refused",
-    );
+    let bench = Bench::new(&rt, rt.alloc(), 1000);
     assert_eq!(rt;
-        passed_meanwhile(&rt, alloc, &registry, &seen),
+        passed_meanwhile(&rt, rt.alloc(), &bench),
         (true, 3, 1, [false, false, true, true, true])
     );
 }

@@ -1,4 +1,5 @@
 //! Views that share a registry: whose health they share, whose flags they don't, what an update passes to its caller, and how they leave.
+use crate::asserted::assert_same;
 use lb_threads_core::registry::{put_registry, take_registry};
 use log::Log;
 use pingora_load_balancing::discovery::{Discovered, DiscoverySource, ServiceDiscovery, Settings};
@@ -19,11 +20,11 @@ use std::time::{Clock, Duration};
 // The backends that a discovery may find.
 const ADDRESSES: [&str; 3] = ["1.0.0.1:80", "1.0.0.2:80", "1.0.0.3:80"];
 
-// Which of them it finds, and which of these it disables, a bit for each; other flags it leaves alone.
+// Which of them it finds, a bit for each, and whether it disables the first one; it leaves other flags alone.
 #[derive(Drop)]
 struct Found {
     members: AtomicUsize,
-    disabled: AtomicUsize,
+    disables: AtomicBool,
 }
 
 // Finds backends of this weight.
@@ -33,21 +34,24 @@ struct Finds {
     weight: usize,
 }
 
+// Those of these members, at this weight.
+fn listed(alloc: Global, members: usize, weight: usize) -> Result<BTreeSet<Backend>, Refusal> {
+    let mut set = BTreeSet::new(alloc);
+    for (place, address) in ADDRESSES.iter().enumerate() {
+        if members & (1 << place) != 0 {
+            set.insert(Backend::new_with_weight(alloc, *address, weight)?)?;
+        }
+    }
+    Ok(set)
+}
+
 impl ServiceDiscovery for Finds {
     fn discover(&self, alloc: Global) -> Result<Discovered, Refusal> {
-        let members = self.found.members.load(SeqCst);
-        let disabled = self.found.disabled.load(SeqCst);
-        let mut set = BTreeSet::new(alloc);
+        let set = listed(alloc, self.found.members.load(SeqCst), self.weight)?;
         let mut settings = Settings::new(alloc);
-        for (place, address) in ADDRESSES.iter().enumerate() {
-            let bit = 1 << place;
-            let backend = Backend::new_with_weight(alloc, *address, self.weight)?;
-            if disabled & bit != 0 {
-                settings.insert((backend.addr.clone()?, self.weight), false)?;
-            }
-            if members & bit != 0 {
-                set.insert(backend)?;
-            }
+        if self.found.disables.load(SeqCst) {
+            let first = SocketAddr::Inet(InetAddr::V4([1, 0, 0, 1], 80));
+            settings.insert((first, self.weight), false)?;
         }
         Ok((set, settings))
     }
@@ -79,50 +83,105 @@ type Registry = HealthRegistry<Rule<NoRule>, FirstDown>;
 
 type View = BackendView<Finds, Rule<NoRule>, FirstDown>;
 
-// A view, and what its discovery finds.
-#[derive(Drop)]
+// A registry with its check, whose calls are counted.
+struct Shared {
+    checks: Arc<AtomicUsize>,
+    registry: Arc<Registry>,
+}
+
+impl Drop for Shared {
+    fn drop(self) {
+        let Shared {
+            checks: _,
+            registry: _,
+        } = self;
+    }
+}
+
+impl Shared {
+    // By address, backends of two weights have one cell; else they have two.
+    fn new<W: Abort + Wait>(rt: &W, alloc: Global, is_by_address: bool) -> Arc<Shared> {
+        let checks = Arc::new(alloc, AtomicUsize::new(0)).expect(rt, "refused");
+        let check = FirstDown {
+            checks: Arc::try_clone(&checks).expect(rt, "refused"),
+        };
+        let registry = if is_by_address {
+            HealthRegistry::by_address(alloc)
+        } else {
+            HealthRegistry::new(alloc)
+        };
+        let registry = Arc::new(alloc, registry.expect(rt, "refused")).expect(rt, "refused");
+        registry.set_health_check(rt, check).expect(rt, "refused");
+        Arc::new(alloc, Shared { checks, registry }).expect(rt, "refused")
+    }
+}
+
+// What is done with a view.
+#[derive(Clone, Copy)]
+enum Call {
+    // It is updated to these members.
+    Update(usize),
+    // From now on its discovery disables the first backend, or leaves its flag alone.
+    Disables(bool),
+    // It makes a pass of checks, for all views of its registry.
+    Check,
+    // It disables the second backend.
+    Disable,
+}
+
+// A view in a registry, and what its discovery finds.
 struct Bench {
     alloc: Global,
     weight: usize,
     found: Arc<Found>,
+    shared: Arc<Shared>,
     view: View,
 }
 
+impl Drop for Bench {
+    fn drop(self) {
+        let Bench {
+            alloc: _,
+            weight: _,
+            found: _,
+            shared: _,
+            view: _,
+        } = self;
+    }
+}
+
 impl Bench {
-    // A view in this registry of these members, at this weight, before its first update.
-    fn new<W: Abort + Wait>(
-        rt: &W,
-        alloc: Global,
-        registry: &Arc<Registry>,
-        members: usize,
-        weight: usize,
-    ) -> Bench {
+    // A view of no members in this registry, whose discovery finds backends of this weight.
+    fn new<W: Abort + Wait>(rt: &W, alloc: Global, shared: &Arc<Shared>, weight: usize) -> Bench {
         let found = Found {
-            members: AtomicUsize::new(members),
-            disabled: AtomicUsize::new(0),
+            members: AtomicUsize::new(0),
+            disables: AtomicBool::new(false),
         };
         let found = Arc::new(alloc, found).expect(rt, "refused");
-        let finds = Finds {
+        let finds = DiscoverySource::Boxed(Finds {
             found: Arc::try_clone(&found).expect(rt, "refused"),
             weight,
-        };
-        let registry = Arc::try_clone(registry).expect(rt, "refused");
-        let finds = DiscoverySource::Boxed(finds);
+        });
+        let shared = Arc::try_clone(shared).expect(rt, "refused");
+        let registry = Arc::try_clone(&shared.registry).expect(rt, "refused");
         let view = Backends::new_with_health_registry(rt, alloc, finds, registry);
         Bench {
             alloc,
             weight,
             found,
+            shared,
             view: view.expect(rt, "refused"),
         }
     }
 
-    // Updates to these members. Returns how many the caller's function borrowed, if it ran.
-    fn update<W: Abort + Wait>(&self, rt: &W, members: usize) -> Option<usize> {
+    // Updates to these members, and notes how many the caller's function borrowed, where it ran.
+    fn update<W: Abort + Wait>(&self, rt: &W, members: usize, text: &mut String) {
         self.found.members.store(members, SeqCst);
-        self.view
-            .update(rt, self.alloc, |set| set.len())
-            .expect(rt, "refused")
+        let told = self.view.update(rt, self.alloc, |set| set.len());
+        match told.expect(rt, "refused") {
+            Some(count) => write!(text, " told {count}").expect(rt, "refused"),
+            None => text.push_str(" same").expect(rt, "refused"),
+        }
     }
 
     // The backend of this place.
@@ -131,175 +190,226 @@ impl Bench {
         Backend::new_with_weight(self.alloc, address, self.weight).expect(rt, "refused")
     }
 
-    // Whether the backend of this place is ready.
-    fn is_ready<W: Abort + Wait>(&self, rt: &W, place: usize) -> bool {
-        self.view.ready(rt, &self.backend(rt, place))
-    }
-
-    // Notes which backends are ready.
+    // Notes how many targets the registry has and how many checks there were, and which backends are ready.
     fn note<W: Abort + Wait>(&self, rt: &W, text: &mut String) {
+        let targets = self.shared.registry.target_count(rt, self.alloc);
+        let targets = targets.expect(rt, "refused");
+        write!(text, " {targets}/{}", self.shared.checks.load(SeqCst)).expect(rt, "refused");
         for place in 0..3 {
-            let mark = if self.is_ready(rt, place) {
-                " yes"
-            } else {
-                " no"
-            };
+            let is_ready = self.view.ready(rt, &self.backend(rt, place));
+            let mark = if is_ready { " yes" } else { " no" };
             text.push_str(mark).expect(rt, "refused");
         }
     }
-}
 
-// A registry with its check, whose calls are counted.
-#[derive(Drop)]
-struct Site {
-    alloc: Global,
-    checks: Arc<AtomicUsize>,
-    registry: Arc<Registry>,
-}
-
-impl Site {
-    // Over this registry, whose check is set.
-    fn new<W: Abort + Wait>(rt: &W, alloc: Global, registry: Registry) -> Site {
-        let checks = Arc::new(alloc, AtomicUsize::new(0)).expect(rt, "refused");
-        let check = FirstDown {
-            checks: Arc::try_clone(&checks).expect(rt, "refused"),
-        };
-        registry.set_health_check(rt, check).expect(rt, "refused");
-        Site {
-            alloc,
-            checks,
-            registry: Arc::new(alloc, registry).expect(rt, "refused"),
+    // Does this, and notes what an update tells.
+    fn call<W: Abort + Log + Threads + Wait + Sync>(&self, rt: &W, call: Call, text: &mut String) {
+        match call {
+            Call::Update(members) => self.update(rt, members, text),
+            Call::Disables(disables) => self.found.disables.store(disables, SeqCst),
+            Call::Check => self
+                .view
+                .run_health_check(rt, self.alloc, false)
+                .expect(rt, "refused"),
+            Call::Disable => self.view.set_enable(rt, &self.backend(rt, 1), false),
         }
     }
+}
 
-    // A view of these members at this weight.
-    fn view<W: Abort + Wait>(&self, rt: &W, members: usize, weight: usize) -> Bench {
-        Bench::new(rt, self.alloc, &self.registry, members, weight)
+// Where the second of two views is.
+#[derive(Clone, Copy)]
+enum Second {
+    // In the registry of the first one.
+    Beside,
+    // In that registry, by address, with backends of weight 2.
+    Heavier,
+    // In a registry of its own.
+    Apart,
+}
+
+// Two views.
+struct Pair {
+    first: Bench,
+    second: Bench,
+}
+
+impl Drop for Pair {
+    fn drop(self) {
+        let Pair {
+            first: _,
+            second: _,
+        } = self;
     }
+}
 
-    // Notes how many targets there are, and how many checks there were.
-    fn note<W: Abort + Wait>(&self, rt: &W, text: &mut String) {
-        let targets = self
-            .registry
-            .target_count(rt, self.alloc)
-            .expect(rt, "refused");
-        write!(text, " {targets}/{}", self.checks.load(SeqCst)).expect(rt, "refused");
+impl Pair {
+    // Before their first updates.
+    fn new<W: Abort + Wait>(rt: &W, alloc: Global, second: Second) -> Pair {
+        let (is_by_address, weight) = match second {
+            Second::Heavier => (true, 2),
+            Second::Beside | Second::Apart => (false, 1),
+        };
+        let shared = Shared::new(rt, alloc, is_by_address);
+        let other = match second {
+            Second::Apart => Shared::new(rt, alloc, false),
+            Second::Beside | Second::Heavier => Arc::try_clone(&shared).expect(rt, "refused"),
+        };
+        Pair {
+            first: Bench::new(rt, alloc, &shared, 1),
+            second: Bench::new(rt, alloc, &other, weight),
+        }
     }
 }
 
-// A pass by a view, for all views of its registry.
-fn pass<W: Abort + Log + Threads + Wait + Sync>(rt: &W, bench: &Bench) {
-    bench
-        .view
-        .run_health_check(rt, bench.alloc, false)
-        .expect(rt, "refused");
+// What is done with two views.
+#[derive(Clone, Copy)]
+enum Step {
+    First(Call),
+    Second(Call),
+    // What is seen of each is noted.
+    Note,
 }
 
-// Two views of which each has a backend of its own share the health of a third, and each judges its own members alone. As their members
-// go, so do the targets.
-fn share_checks<W: Abort + Log + Threads + Wait + Sync>(rt: &W, alloc: Global, text: &mut String) {
-    let site = Site::new(rt, alloc, HealthRegistry::new(alloc).expect(rt, "refused"));
-    let first = site.view(rt, 0b011, 1);
-    let second = site.view(rt, 0b101, 1);
-    first.update(rt, 0b011);
-    second.update(rt, 0b101);
-    pass(rt, &first);
-    site.note(rt, text);
-    first.note(rt, text);
-    second.note(rt, text);
-    first.update(rt, 0);
-    pass(rt, &first);
-    site.note(rt, text);
-    second.update(rt, 0);
-    pass(rt, &first);
-    site.note(rt, text);
+// A case: where the second view is, what is done, and what is noted.
+struct Row {
+    name: &'static str,
+    second: Second,
+    steps: &'static [Step],
+    wanted: &'static str,
 }
 
-// By address, backends of two weights have one cell and one check; the flag of one view doesn't touch the other.
-fn share_addresses<W: Abort + Log + Threads + Wait + Sync>(
+const ROWS: [Row; 5] = [
+    // Each view judges its own members by the checks of all. As its members go, so do the targets.
+    Row {
+        name: "shared checks",
+        second: Second::Beside,
+        steps: &[
+            Step::First(Call::Update(0b011)),
+            Step::Second(Call::Update(0b101)),
+            Step::First(Call::Check),
+            Step::Note,
+            Step::First(Call::Update(0)),
+            Step::First(Call::Check),
+            Step::Note,
+            Step::Second(Call::Update(0)),
+            Step::First(Call::Check),
+            Step::Note,
+        ],
+        wanted: " told 2 told 2 3/3 no yes no 3/3 no no yes\
+            \x20told 0 2/5 no no no 2/5 no no yes told 0 0/5 no no no 0/5 no no no",
+    },
+    // By address, backends of two weights have one cell and one check; the flag of one view doesn't touch the other.
+    Row {
+        name: "shared addresses",
+        second: Second::Heavier,
+        steps: &[
+            Step::First(Call::Update(0b010)),
+            Step::Second(Call::Update(0b010)),
+            Step::Second(Call::Check),
+            Step::Note,
+            Step::First(Call::Disable),
+            Step::Note,
+        ],
+        wanted: " told 1 told 1 1/1 no yes no 1/1 no yes no 1/1 no no no 1/1 no yes no",
+    },
+    // A discovery's settings touch the flags of its own view alone. A flag stays where a later discovery omits the backend.
+    Row {
+        name: "flags",
+        second: Second::Beside,
+        steps: &[
+            Step::First(Call::Disables(true)),
+            Step::First(Call::Update(0b001)),
+            Step::Second(Call::Update(0b001)),
+            Step::Note,
+            Step::First(Call::Disables(false)),
+            Step::First(Call::Update(0b011)),
+            Step::Note,
+        ],
+        wanted: " told 1 told 1 1/0 no no no 1/0 yes no no told 2 2/0 no yes no 2/0 yes no no",
+    },
+    // A pass over one registry checks no target of another, and what it finds down is ready there.
+    Row {
+        name: "registries apart",
+        second: Second::Apart,
+        steps: &[
+            Step::First(Call::Update(0b001)),
+            Step::Second(Call::Update(0b001)),
+            Step::First(Call::Check),
+            Step::Note,
+        ],
+        wanted: " told 1 told 1 1/1 no no no 1/0 yes no no",
+    },
+    // A caller's function runs once for another membership and never for the same one; the members of an old one are ready no longer.
+    Row {
+        name: "changes are told",
+        second: Second::Apart,
+        steps: &[
+            Step::First(Call::Update(0)),
+            Step::First(Call::Update(0b011)),
+            Step::First(Call::Update(0b011)),
+            Step::Note,
+            Step::First(Call::Update(0b100)),
+            Step::Note,
+        ],
+        wanted: " same told 2 same 2/0 yes yes no 0/0 no no no told 1 1/0 no no yes 0/0 no no no",
+    },
+];
+
+// Does these steps. Returns what was noted.
+fn noted<W: Abort + Log + Threads + Wait + Sync>(
     rt: &W,
     alloc: Global,
-    text: &mut String,
-) {
-    let registry = HealthRegistry::by_address(alloc).expect(rt, "refused");
-    let site = Site::new(rt, alloc, registry);
-    let first = site.view(rt, 0, 1);
-    let second = site.view(rt, 0, 2);
-    first.update(rt, 0b010);
-    second.update(rt, 0b010);
-    pass(rt, &second);
-    site.note(rt, text);
-    first.view.set_enable(rt, &first.backend(rt, 1), false);
-    first.note(rt, text);
-    second.note(rt, text);
+    pair: &Pair,
+    steps: &[Step],
+) -> String {
+    let mut text = String::new(alloc);
+    for step in steps {
+        match step {
+            Step::First(call) => pair.first.call(rt, *call, &mut text),
+            Step::Second(call) => pair.second.call(rt, *call, &mut text),
+            Step::Note => {
+                pair.first.note(rt, &mut text);
+                pair.second.note(rt, &mut text);
+            }
+        }
+    }
+    text
 }
 
-// A discovery's settings touch the flags of its own view alone. A flag stays where a later discovery omits the backend.
-fn keep_flags<W: Abort + Wait>(rt: &W, alloc: Global, text: &mut String) {
-    let site = Site::new(rt, alloc, HealthRegistry::new(alloc).expect(rt, "refused"));
-    let first = site.view(rt, 0, 1);
-    let second = site.view(rt, 0, 1);
-    first.found.disabled.store(0b001, SeqCst);
-    first.update(rt, 0b001);
-    second.update(rt, 0b001);
-    first.note(rt, text);
-    second.note(rt, text);
-    first.found.disabled.store(0, SeqCst);
-    first.update(rt, 0b011);
-    first.note(rt, text);
+// Views over one registry share its cells and its checks, and nothing else.
+#[test]
+fn views_of_one_registry(rt: HostRuntime) {
+    for row in &ROWS {
+        let pair = Pair::new(&rt, rt.alloc(), row.second);
+        let text = noted(&rt, rt.alloc(), &pair, row.steps);
+        assert_same(&rt, &text.as_str(), &row.wanted, &row.name);
+    }
 }
 
-// A pass over one registry checks no target of another, and what it finds down is ready there.
-fn check_apart<W: Abort + Log + Threads + Wait + Sync>(rt: &W, alloc: Global, text: &mut String) {
-    let site = Site::new(rt, alloc, HealthRegistry::new(alloc).expect(rt, "refused"));
-    let other = Site::new(rt, alloc, HealthRegistry::new(alloc).expect(rt, "refused"));
-    let first = site.view(rt, 0, 1);
-    let second = other.view(rt, 0, 1);
-    first.update(rt, 0b001);
-    second.update(rt, 0b001);
-    pass(rt, &first);
-    site.note(rt, text);
-    other.note(rt, text);
-    first.note(rt, text);
-    second.note(rt, text);
-}
-
-// A caller's function runs once for another membership and never for the same one; an old membership stays readable, and its members are
-// ready no longer once the function has run.
-fn tell_changes<W: Abort + Wait>(rt: &W, alloc: Global, text: &mut String) {
-    let site = Site::new(rt, alloc, HealthRegistry::new(alloc).expect(rt, "refused"));
-    let bench = site.view(rt, 0, 1);
-    let told = [
-        bench.update(rt, 0),
-        bench.update(rt, 0b011),
-        bench.update(rt, 0b011),
-    ];
+// An old membership stays readable beside the new one.
+fn keep<W: Abort + Wait>(rt: &W, bench: &Bench, text: &mut String) {
+    bench.update(rt, 0b011, text);
     let old = bench.view.get_backend(rt).expect(rt, "refused");
-    bench.note(rt, text);
-    let told = (told, bench.update(rt, 0b100));
-    bench.note(rt, text);
+    bench.update(rt, 0b100, text);
     let new = bench.view.get_backend(rt).expect(rt, "refused");
-    let lengths = (old.len(), new.len());
+    let (old, new) = (old.len(), new.len());
     let generation = bench.view.generation(rt);
-    write!(text, " {told:?} {lengths:?} {generation}").expect(rt, "refused");
+    write!(text, " old {old} new {new} generation {generation}").expect(rt, "refused");
 }
 
 // A view is dropped while its registry is out of its lock. The registry's next call removes it, and releases its cells.
-fn leave<W: Abort + Wait>(rt: &W, alloc: Global, text: &mut String) {
-    let site = Site::new(rt, alloc, HealthRegistry::new(alloc).expect(rt, "refused"));
-    let first = site.view(rt, 0, 1);
-    let second = site.view(rt, 0, 1);
-    first.update(rt, 0b011);
-    second.update(rt, 0b001);
-    site.note(rt, text);
-    let is_kept = site.registry.cell_ready(rt, 1);
-    let held = take_registry(&site.registry, rt);
-    drop(first);
-    put_registry(&site.registry, held);
-    site.note(rt, text);
-    let is_kept = (is_kept, site.registry.cell_ready(rt, 1));
-    write!(text, " {is_kept:?}").expect(rt, "refused");
-    second.note(rt, text);
+fn leave<W: Abort + Wait>(rt: &W, leaves: Bench, stays: &Bench, text: &mut String) {
+    let registry = &stays.shared.registry;
+    leaves.update(rt, 0b011, text);
+    stays.update(rt, 0b001, text);
+    stays.note(rt, text);
+    let was_kept = registry.cell_ready(rt, 1);
+    let held = take_registry(registry, rt);
+    drop(leaves);
+    put_registry(registry, held);
+    stays.note(rt, text);
+    let is_kept = registry.cell_ready(rt, 1);
+    write!(text, " kept {was_kept} {is_kept}").expect(rt, "refused");
 }
 
 // Waits until the flag is set, for ten seconds at most. Returns whether it is.
@@ -334,41 +444,31 @@ fn part<W: Abort + Wait + Clock>(
 }
 
 // While a caller's function runs, other threads use the view, and what they set stays.
-fn go_on<W: Abort + Threads + Wait + Clock + Sync>(rt: &W, alloc: Global, text: &mut String) {
-    let site = Site::new(rt, alloc, HealthRegistry::new(alloc).expect(rt, "refused"));
-    let bench = site.view(rt, 0b110, 1);
+fn go_on<W: Abort + Threads + Wait + Clock + Sync>(rt: &W, bench: &Bench, text: &mut String) {
+    bench.found.members.store(0b110, SeqCst);
     let words = [AtomicBool::new(false), AtomicBool::new(false)];
-    let parts = thread::map_indices(rt, alloc, 2, &|thread| part(rt, &bench, &words, thread));
-    let parts = parts.expect(rt, "refused");
-    let is_good = parts.as_slice() == [true; 2].as_slice();
-    write!(text, " {is_good}").expect(rt, "refused");
+    let parts = thread::map_indices(
+        rt,
+        bench.alloc,
+        2,
+        &|thread| { part(rt, bench, &words, thread) },
+    );
+    let is_good = parts.expect(rt, "refused").as_slice() == [true; 2].as_slice();
+    write!(text, " good {is_good}").expect(rt, "refused");
     bench.note(rt, text);
 }
 
-// Views over one registry share its cells and its checks, and nothing else.
+// What a view does beside another one of its registry, that no case above shows.
 #[test]
-fn views_of_one_registry(rt: HostRuntime) {
+fn views_beside_a_view(rt: HostRuntime) {
     let alloc = rt.alloc();
     let mut text = String::new(alloc);
-    share_checks(&rt, alloc, &mut text);
-    share_addresses(&rt, alloc, &mut text);
-    check_apart(&rt, alloc, &mut text);
-    assert_eq!(rt;
-        text.as_str(),
-        " 3/3 no yes no no no yes 2/5 0/5 1/1 no no no no yes no 1/1 1/0 no no no yes no no"
-    );
-    text.clear();
-    keep_flags(&rt, alloc, &mut text);
-    tell_changes(&rt, alloc, &mut text);
-    assert_eq!(rt;
-        text.as_str(),
-        " no no no yes no no no yes no yes yes no no no yes ([None, Some(2), None], Some(1)) (2, 1) 2"
-    );
-    text.clear();
-    leave(&rt, alloc, &mut text);
-    go_on(&rt, alloc, &mut text);
-    assert_eq!(rt;
-        text.as_str(),
-        " 2/0 1/0 (true, false) yes no no true no no yes"
-    );
+    let shared = Shared::new(&rt, alloc, false);
+    let bench = Bench::new(&rt, alloc, &shared, 1);
+    leave(&rt, Bench::new(&rt, alloc, &shared, 1), &bench, &mut text);
+    keep(&rt, &bench, &mut text);
+    go_on(&rt, &bench, &mut text);
+    let wanted = " told 2 told 1 2/0 yes no no 1/0 yes no no kept true false\
+        \x20told 2 told 1 old 2 new 1 generation 3 good true 2/0 no no yes";
+    assert_eq!(rt; text.as_str(), wanted);
 }

@@ -41,7 +41,7 @@ fn selects_meanwhile<R: Abort + Wait + Clock + Copy + Drop>(
 }
 
 // The backend of weight 1 at an address.
-fn at<R: Abort>(rt: &R, bench: &Bench<RoundRobin, R>, address: &str) -> Backend {
+fn at<R: Abort + Drop>(rt: &R, bench: &Bench<RoundRobin, R>, address: &str) -> Backend {
     Backend::new(bench.alloc, address).expect(rt, "refused")
 }
 

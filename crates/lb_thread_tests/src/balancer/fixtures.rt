@@ -93,11 +93,13 @@ const MORE: [&str; 4] = ["1.0.0.1:80", "1.0.0.2:80", "1.0.0.3:80", "1.0.0.4:80"]
 
 const SECOND: [&str; 3] = ["2.0.0.1:80", "2.0.0.2:80", "2.0.0.3:80"];
 
-/// Returns backends of weight 1 at these addresses.
-pub fn listed(alloc: Global, texts: &[&str]) -> Result<BTreeSet<Backend>, Refusal> {
+const THIRD: [&str; 2] = ["3.0.0.1:80", "3.0.0.2:80"];
+
+/// Returns backends of this weight at these addresses.
+pub fn listed(alloc: Global, texts: &[&str], weight: usize) -> Result<BTreeSet<Backend>, Refusal> {
     let mut set = BTreeSet::new(alloc);
     for text in texts {
-        set.insert(Backend::new(alloc, *text)?)?;
+        set.insert(Backend::new_with_weight(alloc, *text, weight)?)?;
     }
     Ok(set)
 }
@@ -114,37 +116,27 @@ pub fn in_turn<R: Abort + Clock + Copy + Drop>(
     })
 }
 
-// Two backends whose weights are more than 64 bits hold.
-fn heavy(alloc: Global) -> Result<BTreeSet<Backend>, Refusal> {
-    let mut set = listed(alloc, &["3.0.0.2:80"])?;
-    set.insert(Backend::new_with_weight(alloc, "3.0.0.1:80", usize::MAX)?)?;
-    Ok(set)
-}
-
-// The setting of the second backend by which a line's answer enables or disables it, if it does.
-fn setting(alloc: Global, answers: u64) -> Result<Settings, Refusal> {
-    let mut settings = Settings::new(alloc);
-    if answers == DISABLES || answers == ENABLES {
-        let second = Backend::new(alloc, "1.0.0.2:80")?;
-        settings.insert((second.addr.clone()?, 1), answers == ENABLES)?;
-    }
-    Ok(settings)
-}
-
 impl<R: Clock> ServiceDiscovery for InTurn<R> {
     fn discover(&self, alloc: Global) -> Result<Discovered, Refusal> {
         let turn = self.turn.fetch_add(1, SeqCst);
         self.line.call(&self.rt);
         let answers = self.line.answers.load(SeqCst);
-        let set = match answers {
-            FAULT => return Err(Refusal::Discovery),
-            HEAVY => heavy(alloc)?,
-            GROWN => listed(alloc, &MORE)?,
-            DISABLES | ENABLES => listed(alloc, &FIRST)?,
-            _ if turn % 2 == 0 => listed(alloc, &FIRST)?,
-            _ => listed(alloc, &SECOND)?,
+        let found = match answers {
+            FAULT => Err(Refusal::Discovery),
+            // Their weights are more than 64 bits hold.
+            HEAVY => listed(alloc, &THIRD, usize::MAX),
+            GROWN => listed(alloc, &MORE, 1),
+            DISABLES | ENABLES => listed(alloc, &FIRST, 1),
+            _ if turn % 2 == 0 => listed(alloc, &FIRST, 1),
+            _ => listed(alloc, &SECOND, 1),
         };
-        Ok((set, setting(alloc, answers)?))
+        let found = found?;
+        let mut settings = Settings::new(alloc);
+        if answers == DISABLES || answers == ENABLES {
+            let second = SocketAddr::Inet(InetAddr::V4([1, 0, 0, 2], 80));
+            settings.insert((second, 1), answers == ENABLES)?;
+        }
+        Ok((found, settings))
     }
 }
 
@@ -194,12 +186,22 @@ pub type Tested<S, R> = LoadBalancer<S, InTurn<R>, Rule<NoRule>, SecondDown<R>>;
 pub type TestedRegistry<R> = HealthRegistry<Rule<NoRule>, SecondDown<R>>;
 
 /// A balancer, and the lines to its discovery and to its check, once that is set.
-#[derive(Drop)]
-pub struct Bench<S: BackendSelection, R> {
+pub struct Bench<S: BackendSelection, R: Drop> {
     pub alloc: Global,
     pub line: Arc<Line>,
     pub checks: Arc<Line>,
     pub balancer: Tested<S, R>,
+}
+
+impl<S: BackendSelection, R: Drop> Drop for Bench<S, R> {
+    fn drop(self) {
+        let Bench {
+            alloc: _,
+            line: _,
+            checks: _,
+            balancer: _,
+        } = self;
+    }
 }
 
 impl<S: BackendSelection, R: Abort + Wait + Clock + Copy + Drop> Bench<S, R> {

@@ -21,7 +21,7 @@ fn sharing<R: Abort + Wait + Clock + Copy + Drop>(
     registry: &Arc<Shared<R>>,
     address: &str,
 ) -> Tested<RoundRobin, R> {
-    let found = listed(alloc, &[address]).expect(rt, "refused");
+    let found = listed(alloc, &[address], 1).expect(rt, "refused");
     let discovery = DiscoverySource::Static(Static::new(found));
     let registry = Arc::try_clone(registry).expect(rt, "refused");
     let backends = Backends::new_with_health_registry(rt, alloc, discovery, registry);
@@ -56,7 +56,7 @@ fn select<R: Abort + Wait + Clock + Copy + Drop>(
 }
 
 // A balancer that leaves twice; what it had is no target then, and isn't ready.
-fn leaves<R: Abort + Wait + Clock + Copy + Drop>(
+fn leave_twice<R: Abort + Wait + Clock + Copy + Drop>(
     rt: &R,
     alloc: Global,
     registry: &Shared<R>,
@@ -72,24 +72,48 @@ fn leaves<R: Abort + Wait + Clock + Copy + Drop>(
     balancer.leave(rt);
 }
 
+// A balancer that is dropped while the registry is out of its lock.
+fn leave_locked<R: Abort + Wait + Clock + Copy + Drop>(
+    rt: &R,
+    alloc: Global,
+    registry: &Shared<R>,
+    balancer: Tested<RoundRobin, R>,
+    text: &mut String,
+) {
+    select(rt, alloc, &balancer, text);
+    let held = take_registry(registry, rt);
+    drop(balancer);
+    put_registry(registry, held);
+    count(rt, alloc, registry, text);
+}
+
+// Two balancers that leave, and a third one that stays.
+fn leave<R: Abort + Wait + Clock + Copy + Drop>(
+    rt: &R,
+    alloc: Global,
+    registry: &Arc<Shared<R>>,
+    text: &mut String,
+) {
+    let stays = sharing(rt, alloc, registry, "1.0.0.1:80");
+    let dropped = sharing(rt, alloc, registry, "1.0.0.3:80");
+    leave_twice(
+        rt,
+        alloc,
+        &**registry,
+        &sharing(rt, alloc, registry, "1.0.0.2:80"),
+        text,
+    );
+    leave_locked(rt, alloc, &**registry, dropped, text);
+    select(rt, alloc, &stays, text);
+}
+
 // What leaves has no targets any more, and what else is in the registry stays; a balancer leaves when it is dropped, also while the
 // registry is out of its lock.
 #[test]
 fn views_leave(rt: HostRuntime) {
-    let alloc = rt.alloc();
-    let registry = HealthRegistry::new(alloc).expect(&rt, "refused");
-    let registry = Arc::new(alloc, registry).expect(&rt, "refused");
-    let mut text = String::new(alloc);
-    let stays = sharing(&rt, alloc, &registry, "1.0.0.1:80");
-    let dropped = sharing(&rt, alloc, &registry, "1.0.0.3:80");
-    let second = sharing(&rt, alloc, &registry, "1.0.0.2:80");
-    leaves(&rt, alloc, &*registry, &second, &mut text);
-    drop(second);
-    select(&rt, alloc, &dropped, &mut text);
-    let held = take_registry(&registry, &rt);
-    drop(dropped);
-    put_registry(&registry, held);
-    count(&rt, alloc, &*registry, &mut text);
-    select(&rt, alloc, &stays, &mut text);
+    let registry = HealthRegistry::new(rt.alloc()).expect(&rt, "refused");
+    let registry = Arc::new(rt.alloc(), registry).expect(&rt, "refused");
+    let mut text = String::new(rt.alloc());
+    leave(&rt, rt.alloc(), &registry, &mut text);
     assert_eq!(rt; text.as_str(), " 3 2 false 1.0.0.3:80/1 1 1.0.0.1:80/1");
 }
