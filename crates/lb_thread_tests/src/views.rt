@@ -386,12 +386,13 @@ fn views_of_one_registry(rt: HostRuntime) {
     }
 }
 
-// An old membership stays readable beside the new one.
+// An old membership stays readable beside the new one, and its members are ready no longer.
 fn keep<W: Abort + Wait>(rt: &W, bench: &Bench, text: &mut String) {
     bench.update(rt, 0b011, text);
     let old = bench.view.get_backend(rt).expect(rt, "refused");
     bench.update(rt, 0b100, text);
     let new = bench.view.get_backend(rt).expect(rt, "refused");
+    bench.note(rt, text);
     let (old, new) = (old.len(), new.len());
     let generation = bench.view.generation(rt);
     write!(text, " old {old} new {new} generation {generation}").expect(rt, "refused");
@@ -469,6 +470,6 @@ fn views_beside_a_view(rt: HostRuntime) {
     keep(&rt, &bench, &mut text);
     go_on(&rt, &bench, &mut text);
     let wanted = " told 2 told 1 2/0 yes no no 1/0 yes no no kept true false\
-        \x20told 2 told 1 old 2 new 1 generation 3 good true 2/0 no no yes";
+        \x20told 2 told 1 1/0 no no yes old 2 new 1 generation 3 good true 2/0 no no yes";
     assert_eq!(rt; text.as_str(), wanted);
 }

@@ -1,6 +1,6 @@
 //! A shared balancer in one thread: what its calls do to what is served. What was seen is noted as a text.
 use crate::balancer::fixtures::{
-    Bench, DISABLES, ENABLES, FAULT, HEAVY, InTurn, ROWS, SecondDown, note,
+    Bench, DISABLES, ENABLES, FAULT, HEAVY, InTurn, ROWS, SecondDown, note, note_served,
 };
 use crate::service_fixtures::Ticks;
 use log::Log;
@@ -21,12 +21,7 @@ fn look<R: Abort + Wait + Clock + Copy + Drop>(
     times: u64,
     text: &mut String,
 ) {
-    let generation = bench.balancer.backend_generation(rt);
-    write!(text, "generation {generation}").expect(rt, "refused");
-    if let Some(timing) = bench.balancer.last_update_timing(rt) {
-        let (discovery, build) = (timing.discovery_duration, timing.build_duration);
-        write!(text, " took {discovery} {build}").expect(rt, "refused");
-    }
+    note_served(rt, &bench.balancer, text);
     for _ in 0..times {
         bench.note(rt, 9, text);
     }

@@ -265,6 +265,20 @@ impl<S: BackendSelection, R: Abort + Wait + Clock + Copy + Drop> Bench<S, R> {
     }
 }
 
+/// Notes the generation that a balancer serves, and what its last accepted update took.
+pub fn note_served<S: BackendSelection, R: Abort + Wait + Clock + Copy + Drop>(
+    rt: &R,
+    balancer: &Tested<S, R>,
+    text: &mut String,
+) {
+    let generation = balancer.backend_generation(rt);
+    write!(text, "generation {generation}").expect(rt, "refused");
+    if let Some(timing) = balancer.last_update_timing(rt) {
+        let (discovery, build) = (timing.discovery_duration, timing.build_duration);
+        write!(text, " took {discovery} {build}").expect(rt, "refused");
+    }
+}
+
 /// Notes a selected backend.
 pub fn note<R: Abort>(rt: &R, text: &mut String, found: &Option<Backend>) {
     match found {

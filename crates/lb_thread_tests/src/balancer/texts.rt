@@ -1,5 +1,5 @@
 //! Balancers that are made of texts: what they serve, and why there are none.
-use crate::balancer::fixtures::{Tested, note};
+use crate::balancer::fixtures::{Tested, note, note_served};
 use crate::service_fixtures::Ticks;
 use pingora_load_balancing::prelude::RoundRobin;
 use pingora_load_balancing::{Backend, LoadBalancer, Refusal};
@@ -40,12 +40,8 @@ fn look<R: Abort + Wait + Clock + Copy + Drop>(
     clock: &Ticks,
     text: &mut String,
 ) {
-    let generation = balancer.backend_generation(rt);
-    write!(text, "at {} generation {generation}", clock.next).expect(rt, "refused");
-    if let Some(timing) = balancer.last_update_timing(rt) {
-        let (discovery, build) = (timing.discovery_duration, timing.build_duration);
-        write!(text, " took {discovery} {build}").expect(rt, "refused");
-    }
+    write!(text, "at {} ", clock.next).expect(rt, "refused");
+    note_served(rt, balancer, text);
     let members = balancer.backends().get_backend(rt);
     let members = members.expect(rt, "refused").len();
     write!(text, " members {members} ready").expect(rt, "refused");
