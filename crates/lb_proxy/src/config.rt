@@ -23,7 +23,7 @@ use std::net::SocketAddr;
 use toml::{Table, Value};
 
 /// How a listener selects among the backends of its pool.
-#[derive(Clone, Copy, Debug, PartialEq, Eq)]
+#[derive(Clone, Copy)]
 pub enum Selection {
     /// In turn, by weight.
     RoundRobin,

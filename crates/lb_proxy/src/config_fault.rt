@@ -3,10 +3,9 @@ ghost use Rattle.std.specs.Prelude.{◌≡◌};
 ghost use Rattle.lb_proxy.specs.Config.{backend_place, check_place};
 
 use std::fmt;
-use thiserror::Error;
 
 /// The part of a configuration that a fault is in. Numbers count from 0.
-#[derive(Clone, Copy, Debug, PartialEq, Eq)]
+#[derive(Clone, Copy)]
 pub enum Place {
     Top,
     Check,
@@ -72,52 +71,68 @@ fn numbered<W: fmt::Write>(f: &mut fmt::Formatter<W>, name: &str, number: usize)
 }
 
 /// Why a value is refused.
-#[derive(Clone, Copy, Debug, PartialEq, Eq, Error)]
+#[derive(Clone, Copy, PartialEq, Eq)]
 pub enum Cause {
-    #[error("is missing")]
     Missing,
-    #[error("isn't known here")]
     Unknown,
-    #[error("is to be a text")]
     NotText,
-    #[error("is to be a number from 0 on")]
     NotNumber,
-    #[error("is to be true or false")]
     NotFlag,
-    #[error("is to be a table")]
     NotTable,
-    #[error("is to be a list")]
     NotList,
-    #[error("is to be a list of tables")]
     NotTables,
-    #[error("is to be a time: a number and ms, s, m or h, as \"500ms\"")]
     NotDuration,
-    #[error("is to be an address, as \"127.0.0.1:8080\"")]
     NotAddress,
-    #[error("has what is no backend: write \"IP:PORT\", \"unix:PATH\", or a table of address and weight")]
     NotBackend,
-    #[error("is to begin with a slash")]
     NotPath,
-    #[error("is to be tcp or http")]
     NotCheck,
-    #[error("is to be tcp or http")]
     NotMode,
-    #[error("is to be source, and in http mode it can be uri or header:NAME too")]
     NotKey,
-    #[error("is to be rr, fnv, ketama, least or random")]
     NotSelection,
-    #[error("is the name of an earlier pool too")]
     SameName,
-    #[error("names no pool")]
     NoSuchPool,
-    #[error("can't be there together with backends")]
     TwoSources,
-    #[error("needs more memory than there is")]
     OutOfMemory,
 }
 
+impl Cause {
+    // What is said of the value.
+    fn text(self) -> &'static str {
+        match self {
+            Cause::Missing => "is missing",
+            Cause::Unknown => "isn't known here",
+            Cause::NotText => "is to be a text",
+            Cause::NotNumber => "is to be a number from 0 on",
+            Cause::NotFlag => "is to be true or false",
+            Cause::NotTable => "is to be a table",
+            Cause::NotList => "is to be a list",
+            Cause::NotTables => "is to be a list of tables",
+            Cause::NotDuration => "is to be a time: a number and ms, s, m or h, as \"500ms\"",
+            Cause::NotAddress => "is to be an address, as \"127.0.0.1:8080\"",
+            Cause::NotBackend => {
+                "has what is no backend: write \"IP:PORT\", \"unix:PATH\", or a table of address and weight"
+            }
+            Cause::NotPath => "is to begin with a slash",
+            Cause::NotCheck => "is to be tcp or http",
+            Cause::NotMode => "is to be tcp or http",
+            Cause::NotKey => "is to be source, and in http mode it can be uri or header:NAME too",
+            Cause::NotSelection => "is to be rr, fnv, ketama, least or random",
+            Cause::SameName => "is the name of an earlier pool too",
+            Cause::NoSuchPool => "names no pool",
+            Cause::TwoSources => "can't be there together with backends",
+            Cause::OutOfMemory => "needs more memory than there is",
+        }
+    }
+}
+
+impl fmt::Display for Cause {
+    fn fmt<W: fmt::Write>(&self, f: &mut fmt::Formatter<W>) -> fmt::Result {
+        f.write_str(self.text())
+    }
+}
+
 /// A fault: the part, the name in it, and what is wrong with its value.
-#[derive(Clone, Copy, Debug)]
+#[derive(Clone, Copy)]
 pub struct Fault<'t> {
     pub place: Place,
     pub field: &'t str,
