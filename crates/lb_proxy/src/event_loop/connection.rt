@@ -8,7 +8,6 @@ use crate::relay::Relay;
 use mio::event::Event;
 
 /// A connection of a client.
-#[derive(Drop)]
 pub struct Connection {
     /// The number of the listener that took it.
     pub listener: usize,
@@ -25,7 +24,37 @@ pub struct Connection {
     pub active: u64,
 }
 
+impl Drop for Connection {
+    fn drop(self) {
+        let Connection {
+            listener: _,
+            source: _,
+            client: _,
+            backend: _,
+            attempts: _,
+            relay: _,
+            queued: _,
+            active: _,
+        } = self;
+    }
+}
+
 impl Connection {
+    /// Returns the relay, and lets go of all else.
+    pub fn into_relay(self) -> Relay {
+        let Connection {
+            listener: _,
+            source: _,
+            client: _,
+            backend: _,
+            attempts: _,
+            relay,
+            queued: _,
+            active: _,
+        } = self;
+        relay
+    }
+
     /// Notes what an event reports of the backend's end.
     pub fn note_backend(&mut self, event: &Event) {
         if let Some(backend) = &mut self.backend {

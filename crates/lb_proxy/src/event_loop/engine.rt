@@ -55,7 +55,6 @@ macro_rules! scene {
 }
 
 /// A loop over the connections that it took.
-#[derive(Drop)]
 pub struct Engine<R, U> {
     rt: R,
     alloc: Global,
@@ -76,6 +75,28 @@ pub struct Engine<R, U> {
     // Milliseconds of the clock, now and when the connections were looked through last.
     now: u64,
     looked: u64,
+}
+
+impl<R: Drop, U: Drop> Drop for Engine<R, U> {
+    fn drop(self) {
+        let Engine {
+            rt: _,
+            alloc: _,
+            proxy: _,
+            settings: _,
+            poll: _,
+            listeners: _,
+            connections: _,
+            web: _,
+            ready: _,
+            accepting: _,
+            hurries: _,
+            closed: _,
+            spares: _,
+            now: _,
+            looked: _,
+        } = self;
+    }
 }
 
 impl<R: Log + Net + Wait + Clock + Copy + Drop, U: Upstream + Drop> Engine<R, U> {
@@ -401,7 +422,7 @@ impl<R: Log + Net + Wait + Clock + Copy + Drop, U: Upstream + Drop> Engine<R, U>
         };
         self.proxy.count(&self.rt, Counted::Freed);
         count_end(&self.rt, self.alloc, &*self.proxy, &connection);
-        let Connection { mut relay, .. } = connection;
+        let mut relay = connection.into_relay();
         if self.spares.len() < SPARES {
             relay.reset();
             let _ = self.spares.push(relay);
