@@ -38,10 +38,15 @@ pub enum Next {
 }
 
 /// The backends that were tried for one connection, in order, and what is to be done next.
-#[derive(Drop)]
 pub struct Attempts {
     tried: Vec<Backend>,
     next: Next,
+}
+
+impl Drop for Attempts {
+    fn drop(self) {
+        let Attempts { tried: _, next: _ } = self;
+    }
 }
 
 impl Model for Attempts {

@@ -38,7 +38,6 @@ pub enum Selection {
 }
 
 /// What a check of a backend does.
-#[derive(Drop)]
 pub enum CheckKind {
     /// It connects.
     Tcp,
@@ -46,8 +45,16 @@ pub enum CheckKind {
     Http { host: String, path: String },
 }
 
+impl Drop for CheckKind {
+    fn drop(self) {
+        match self {
+            CheckKind::Tcp => {}
+            CheckKind::Http { host: _, path: _ } => {}
+        }
+    }
+}
+
 /// A check of backends. Times are in nanoseconds.
-#[derive(Drop)]
 pub struct CheckConfig {
     pub kind: CheckKind,
     pub every: u64,
@@ -55,6 +62,19 @@ pub struct CheckConfig {
     pub rise: usize,
     pub fall: usize,
     pub parallel: bool,
+}
+
+impl Drop for CheckConfig {
+    fn drop(self) {
+        let CheckConfig {
+            kind: _,
+            every: _,
+            timeout: _,
+            rise: _,
+            fall: _,
+            parallel: _,
+        } = self;
+    }
 }
 
 /// Where the backends of a pool come from.

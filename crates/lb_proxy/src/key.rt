@@ -46,11 +46,19 @@ impl<'a> Key<'a> {
 }
 
 /// What the selections of a listener take as their key: a `Key` with a name of its own.
-#[derive(Drop)]
 pub enum OwnedKey {
     Source,
     Uri,
     Header(String),
+}
+
+impl Drop for OwnedKey {
+    fn drop(self) {
+        match self {
+            OwnedKey::Source | OwnedKey::Uri => {}
+            OwnedKey::Header(_) => {}
+        }
+    }
 }
 
 impl OwnedKey {

@@ -26,12 +26,22 @@ pub enum Phase {
 }
 
 /// One direction of a connection: the bytes that were read from one side and not yet written to the other.
-#[derive(Drop)]
 pub struct Flow {
     buffer: Vec<u8>,
     start: usize,
     end: usize,
     phase: Phase,
+}
+
+impl Drop for Flow {
+    fn drop(self) {
+        let Flow {
+            buffer: _,
+            start: _,
+            end: _,
+            phase: _,
+        } = self;
+    }
 }
 
 impl Model for Flow {
@@ -191,11 +201,20 @@ pub enum Side {
 /// The bytes of a connection on their way between its sides.
 ///
 /// Each call names the side that the bytes come from, the source; the other side is the sink.
-#[derive(Drop)]
 pub struct Relay {
     from_client: Flow,
     from_backend: Flow,
     failed: bool,
+}
+
+impl Drop for Relay {
+    fn drop(self) {
+        let Relay {
+            from_client: _,
+            from_backend: _,
+            failed: _,
+        } = self;
+    }
 }
 
 impl Model for Relay {

@@ -30,10 +30,15 @@ pub struct Answer {
 }
 
 /// What a client is known by: the octets of its address, and its text.
-#[derive(Drop)]
 pub struct Client {
     pub octets: Vec<u8>,
     pub text: String,
+}
+
+impl Drop for Client {
+    fn drop(self) {
+        let Client { octets: _, text: _ } = self;
+    }
 }
 
 /// What is asked by a request that wasn't read.

@@ -15,7 +15,6 @@ const JOINED: usize = 16384;
 const SHORT: usize = 4096;
 
 /// A direction.
-#[derive(Drop)]
 pub struct Lane {
     /// What was read from the source.
     pub inbox: Inbox,
@@ -33,6 +32,22 @@ pub struct Lane {
     /// How many bytes of this message were read from the source, and how many were written to the sink.
     pub received: u64,
     pub sent: u64,
+}
+
+impl Drop for Lane {
+    fn drop(self) {
+        let Lane {
+            inbox: _,
+            head: _,
+            written: _,
+            body: _,
+            fresh: _,
+            ended: _,
+            cut: _,
+            received: _,
+            sent: _,
+        } = self;
+    }
 }
 
 impl Lane {

@@ -19,7 +19,6 @@ use std::sync::Wait;
 pub const KEPT: usize = 512;
 
 /// A connection to a backend.
-#[derive(Drop)]
 pub struct Link {
     pub peer: Peer,
     backend: Backend,
@@ -31,6 +30,20 @@ pub struct Link {
     // Whether it is dropped, and since when it is kept.
     dropped: bool,
     since: u64,
+}
+
+impl Drop for Link {
+    fn drop(self) {
+        let Link {
+            peer: _,
+            backend: _,
+            listener: _,
+            session: _,
+            is_used: _,
+            dropped: _,
+            since: _,
+        } = self;
+    }
 }
 
 /// The connections to backends.

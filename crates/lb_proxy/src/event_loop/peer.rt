@@ -6,7 +6,6 @@ use std::io;
 use std::io::ErrorKind;
 
 /// An end of a connection. A flag is set by an event, and cleared where a call would wait.
-#[derive(Drop)]
 pub struct Peer {
     pub stream: Stream,
     pub readable: bool,
@@ -15,6 +14,18 @@ pub struct Peer {
     pub ending: bool,
     /// How many bytes it sent.
     pub received: u64,
+}
+
+impl Drop for Peer {
+    fn drop(self) {
+        let Peer {
+            stream: _,
+            readable: _,
+            writable: _,
+            ending: _,
+            received: _,
+        } = self;
+    }
 }
 
 /// What a call on a stream came to.

@@ -33,7 +33,6 @@ pub enum Phase {
 }
 
 /// A client's connection.
-#[derive(Drop)]
 pub struct Session {
     /// The number of the listener that took it.
     pub listener: usize,
@@ -57,6 +56,27 @@ pub struct Session {
     pub queued: bool,
     /// When something last happened, in milliseconds.
     pub active: u64,
+}
+
+impl Drop for Session {
+    fn drop(self) {
+        let Session {
+            listener: _,
+            known: _,
+            client: _,
+            phase: _,
+            up: _,
+            down: _,
+            asked: _,
+            key: _,
+            attempts: _,
+            link: _,
+            anew: _,
+            counted: _,
+            queued: _,
+            active: _,
+        } = self;
+    }
 }
 
 impl Session {

@@ -25,7 +25,6 @@ pub const HEAD_LIMIT: usize = 65536;
 pub const FIELD_LIMIT: usize = 100;
 
 /// The head of a request that may be passed on.
-#[derive(Drop)]
 pub struct RequestHead<'a> {
     pub method: &'a [u8],
     /// A path with its query, or `*`.
@@ -38,6 +37,20 @@ pub struct RequestHead<'a> {
     /// How many bytes the head has; the body begins behind them.
     pub length: usize,
     pub framing: Framing,
+}
+
+impl<'a> Drop for RequestHead<'a> {
+    fn drop(self) {
+        let RequestHead {
+            method: _,
+            target: _,
+            version: _,
+            fields: _,
+            options: _,
+            length: _,
+            framing: _,
+        } = self;
+    }
 }
 
 /// What has to be known of a request until its answer is passed on.

@@ -22,7 +22,6 @@ use httparse::spans::{EMPTY_HEADER_SPAN, HeaderSpan, ResponseSpans, parse_respon
 use std::alloc::Global;
 
 /// The head of an answer that may be passed on.
-#[derive(Drop)]
 pub struct ResponseHead<'a> {
     pub version: Version,
     pub status: u16,
@@ -34,6 +33,20 @@ pub struct ResponseHead<'a> {
     /// How many bytes the head has; the body begins behind them.
     pub length: usize,
     pub framing: Framing,
+}
+
+impl<'a> Drop for ResponseHead<'a> {
+    fn drop(self) {
+        let ResponseHead {
+            version: _,
+            status: _,
+            reason: _,
+            fields: _,
+            options: _,
+            length: _,
+            framing: _,
+        } = self;
+    }
 }
 
 impl ResponseHead<'_> {
