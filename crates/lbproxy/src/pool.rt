@@ -41,7 +41,6 @@ pub struct Traffic {
 pub type TrafficTable = BTreeMap<Backend, Traffic>;
 
 /// A pool.
-#[derive(Drop)]
 pub struct Pool<R: Log + Wait + Drop, C: HealthCheck + Drop> {
     pub name: String,
     pub group: Arc<Group<R, C>>,
@@ -51,18 +50,43 @@ pub struct Pool<R: Log + Wait + Drop, C: HealthCheck + Drop> {
     by_load: bool,
 }
 
+impl<R: Log + Wait + Drop, C: HealthCheck + Drop> Drop for Pool<R, C> {
+    fn drop(self) {
+        let Pool {
+            name: _,
+            group: _,
+            backends: _,
+            traffic: _,
+            by_load: _,
+        } = self;
+    }
+}
+
 /// What all pools that have the same check share.
-#[derive(Drop)]
 pub struct Common<C: HealthCheck + Drop> {
     pub registry: Arc<Registry<C>>,
     pub gate: Arc<SelectorRebuildGate>,
 }
 
+impl<C: HealthCheck + Drop> Drop for Common<C> {
+    fn drop(self) {
+        let Common {
+            registry: _,
+            gate: _,
+        } = self;
+    }
+}
+
 /// What the pools share, and for each pool, in order, what it has in place of that where its check is its own.
-#[derive(Drop)]
 pub struct Commons<C: HealthCheck + Drop> {
     pub shared: Common<C>,
     pub own: Vec<Option<Common<C>>>,
+}
+
+impl<C: HealthCheck + Drop> Drop for Commons<C> {
+    fn drop(self) {
+        let Commons { shared: _, own: _ } = self;
+    }
 }
 
 impl<C: HealthCheck + Drop> Commons<C> {
