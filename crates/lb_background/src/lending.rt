@@ -67,13 +67,11 @@ pub struct SharedBackends<'b, B> {
     lender: &'b B,
 }
 
-impl<'b, B> SharedBackends<'b, B> {
-    /// Returns a borrow of the backends. It is for the crates of this library; its users call `backends` of a balancer or a group.
-    pub fn of(lender: &'b B) -> SharedBackends<'b, B>
-        ensures { result.lender.now ≡ lender.now }
-    {
-        SharedBackends { lender }
-    }
+/// Returns the backends of a balancer or a group, borrowed from it: what its `backends` answers.
+pub fn lend<'b, B>(lender: &'b B) -> SharedBackends<'b, B>
+    ensures { result.lender.now ≡ lender.now }
+{
+    SharedBackends { lender }
 }
 
 impl<'b, B: LendsToThreads> SharedBackends<'b, B> {

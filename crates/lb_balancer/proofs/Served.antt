@@ -98,10 +98,11 @@ of-registry gives {cells = cells} {c = c} start same is =
     subst (λ r. IsRegistryOf gives r cells) (start ∙ ap (λ v. v.registry) same) is
 
 module _ {D C R : Type 0} (b : BalancerValue D C R) {s t : ServedViewValue C} where
-  pub updated : IsServedBy b s → t.config ≡ s.config → (members : List Member) (settings : List (Member × Bool))
-      → MayGive b.discovery members settings → Takes members settings s t → IsServedBy b t
-  updated was config members settings discovered takes = record {
+  pub updated : IsServedBy b s → t.config ≡ s.config → t.view.id ≡ s.view.id → (members : List Member)
+      (settings : List (Member × Bool)) → MayGive b.discovery members settings → Takes members settings s t → IsServedBy b t
+  updated was config id members settings discovered takes = record {
     config = config ∙ was.config;
+    id = id ∙ was.id;
     views = after_settings settings (with_membership members takes.0 was.views);
     view = takes.1 was.views was.view;
     first =
@@ -113,10 +114,11 @@ module _ {D C R : Type 0} (b : BalancerValue D C R) {s t : ServedViewValue C} wh
         was.discovered;
   }
 
-  pub flagged : IsServedBy b s → t.config ≡ s.config → (backend : Member) (enabled : Bool)
+  pub flagged : IsServedBy b s → t.config ≡ s.config → t.view.id ≡ s.view.id → (backend : Member) (enabled : Bool)
       → ((views : List ViewEvent) → IsViewAfter views s.view → IsViewAfter (Set backend enabled ∷ views) t.view) → IsServedBy b t
-  flagged was config backend enabled flags = record {
+  flagged was config id backend enabled flags = record {
     config = config ∙ was.config;
+    id = id ∙ was.id;
     views = Set backend enabled ∷ was.views;
     view = flags was.views was.view;
     first = was.first;
@@ -124,14 +126,15 @@ module _ {D C R : Type 0} (b : BalancerValue D C R) {s t : ServedViewValue C} wh
   }
 
   -- what was renewed, or refused
-  pub renewed : {A E : Type 0} (r : Result A E) → IsServedBy b s → t.config ≡ s.config
+  pub renewed : {A E : Type 0} (r : Result A E) → IsServedBy b s → t.config ≡ s.config → t.view.id ≡ s.view.id
       → (members : List Member) (settings : List (Member × Bool)) → MayGive b.discovery members settings
       → OnOk r (Takes members settings s t) → OnErr r ((views : List ViewEvent) → IsViewAfter views s.view → IsViewAfter views t.view)
       → IsServedBy b t
-  renewed (Ok a) was config members settings discovered ok err = updated was config members settings discovered ok
-  renewed (Err a) was config members settings discovered ok err =
+  renewed (Ok a) was config id members settings discovered ok err = updated was config id members settings discovered ok
+  renewed (Err a) was config id members settings discovered ok err =
       record {
         config = config ∙ was.config;
+        id = id ∙ was.id;
         views = was.views;
         view = err was.views was.view;
         first = was.first;

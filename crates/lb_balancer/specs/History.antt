@@ -12,12 +12,13 @@ use Rattle.lb_balancer_core.specs.ServedViews.{ServedViewValue}
 use Rattle.lb_threads_core.specs.Registry.{IsRegistryOf}
 use Rattle.lb_balancer.specs.Shown.{AreUnready, ShownValue, ShowsView}
 
--- what a caller knows of a balancer: its discovery, what its selectors are built with, the generation at which it was made, and its
--- registry of health, as it was when it came under its lock
+-- what a caller knows of a balancer: its discovery, what its selectors are built with, the generation at which it was made, the number of
+-- its view, and the registry that the view is in, as it was when it came under its lock
 pub record BalancerValue (D C R : Type 0) : Type 0 where
   pub discovery : DiscoverySource D
   pub config : C
   pub first : ℕ
+  pub view_id : ℕ
   pub registry : RegistryValue R
 
 -- What a discovery may give, as far as a lock's fact can say it: a set that stays gives itself. What a caller's discovery says of itself
@@ -32,9 +33,10 @@ pub record AreDiscovered {D : Type 0} (discovery : DiscoverySource D) (generatio
   pub some : 0 < generation → ∥ ((settings : List (Member × Bool)) × MayGive discovery members settings) ∥₁
 
 module _ {D C R : Type 0} (b : BalancerValue D C R) where
-  -- what the balancer may serve: a view whose newest membership was discovered, and a selector that is built with its configuration
+  -- what the balancer may serve: its view, whose newest membership was discovered, and a selector that is built with its configuration
   pub record IsServedBy (s : ServedViewValue C) : Type 0 where
     pub config : s.config ≡ b.config
+    pub id : s.view.id ≡ b.view_id
     pub views : List ViewEvent
     pub view : IsViewAfter views s.view
     pub first : b.first ≤ generation_after views

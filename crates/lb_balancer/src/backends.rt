@@ -5,7 +5,7 @@ ghost use Rattle.lb_balancer.specs.History.{IsServedGeneration, IsShownBy, Judge
 ghost use Rattle.lb_balancer.specs.Shown.{ShownValue};
 
 use crate::load_balancer::LoadBalancer;
-use lb_background::lending::{LendsToThreads, SharedBackends};
+use lb_background::lending::{LendsToThreads, SharedBackends, lend};
 use lb_health_core::health_check::HealthCheck;
 use lb_health_core::keys::KeyRule;
 use lb_health_view::discovery::ServiceDiscovery;
@@ -26,7 +26,7 @@ impl<
     pub fn backends<'b>(&'b self) -> SharedBackends<'b, LoadBalancer<S, D, R, C>>
         ensures { result.lender.now ≡ self.now }
     {
-        SharedBackends::of(self)
+        lend(self)
     }
 }
 

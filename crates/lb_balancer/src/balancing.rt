@@ -2,7 +2,7 @@
 //! taken in the order update, served, registry, shown; the last is held for a copy of a pointer. The lock of the loads is held for one
 //! load, while no other but that of updates is. A selection takes the first four only where its lane doesn't have what is served (`kept`),
 //! and that of the loads only for a load without a word.
-ghost use Rattle.std.specs.Prelude.{◌≡◌, ◌⊎◌, ◌∷◌, [], ℕ, List, IfOk, IfErr, IfSome, OnOk, OnErr, Ok, Err};
+ghost use Rattle.std.specs.Prelude.{◌≡◌, ◌⊎◌, ◌∷◌, [], ℕ, List, IfOk, IfErr, IfSome, OnOk, Ok, Err};
 ghost use Rattle.std.specs.Prelude.{All, Some, None, unwrap_or, false, MatchOption};
 ghost use Rattle.std.specs.Arc.{arc_value};
 ghost use Rattle.lb_select_base.specs.Backends.{Member, same_member};
@@ -10,7 +10,6 @@ ghost use Rattle.lb_select_base.specs.Refusals.{memory_apart};
 ghost use Rattle.lb_select_base.specs.Memberships.{same_members};
 ghost use Rattle.lb_rebuild_core.specs.GroupCalls.{AcceptsBy, IsMakingRefusal};
 ghost use Rattle.lb_health_view.specs.RegistrySide.{settings_of};
-ghost use Rattle.lb_health_core.specs.Registry.{IsGrowthRefusal};
 ghost use Rattle.lb_balancer_core.specs.ServedViews.{SetsFlag, TakesIn};
 ghost use Rattle.lb_balancer_core.specs.Timings.{Reads};
 ghost use Rattle.lb_threads_core.specs.Registry.{IsRegistryOf};
@@ -43,7 +42,6 @@ use lb_threads_core::lock::KeyedLock;
 use lb_threads_core::numbers::KeyedNumbers;
 use lb_threads_core::owner::ViewOwner;
 use lb_threads_core::registry::{HealthRegistry, put_registry, take_registry};
-use log::Log;
 use std::alloc::Global;
 use std::collections::BTreeSet;
 use std::marker::Model;
@@ -52,7 +50,6 @@ use std::snapshot::Snapshot;
 use std::sync::atomic::AtomicU64;
 use std::sync::atomic::Ordering::SeqCst;
 use std::sync::{Arc, Mutex, Wait};
-use std::thread::Threads;
 
 type ServingLock<S, D, R, C> = KeyedLock<Serving<S>, Snapshot<Origin<S, D, R, C>>, OfServing>;
 
@@ -169,11 +166,13 @@ impl<
         let shared: &HealthRegistry<R, C> = &*registry;
         let built = first_built(rt, alloc, shared, &config)?;
         let view = registered_view(rt, alloc, shared)?;
-        let owner = shared.own_view(rt, alloc, view.id())?;
+        let view_id = view.id();
+        let owner = shared.own_view(rt, alloc, view_id)?;
         let origin = Origin {
             discovery,
             config,
             first: 0,
+            view_id,
             registry,
         };
         let places = places_over(rt, alloc, Serving::new(view, built), &origin)?;
@@ -188,12 +187,12 @@ impl<
         serving: Serving<S>,
         timing: Option<UpdateTimings>,
     ) -> Result<Balancing<S, D, R, C>, Refusal>
-        requires { IsServedBy origin serving }
+        requires { IsServedBy origin serving.served }
         ensures made { IfOk result (λ b. b ≡ origin) }
         ensures refused { IfErr result (λ e. e ≡ Refusal.OutOfMemory) }
     {
         let registry = origin.registry();
-        let owner = registry.own_view(rt, alloc, serving.view_id())?;
+        let owner = registry.own_view(rt, alloc, serving.served.view_id())?;
         let places = places_over(rt, alloc, serving, &origin)?;
         Ok(Balancing::behind(origin, owner, places, timing))
     }
@@ -308,13 +307,15 @@ impl<
         // `_key` and `founded()` are for the prover alone: they show it the value's invariant, and do nothing at run time.
         let _key = &self.origin;
         let mut held = self.serving.take(rt);
-        if !held.value.is_membership(&members) {
+        if !held.value.served.is_membership(&members) {
             self.serving.put(held);
             return Some((members, settings));
         }
         let registries = self.origin.registry();
         let mut cells = take_registry(registries, rt);
-        held.value.keep(alloc, &mut cells.value, members, settings);
+        held.value
+            .served
+            .keep(alloc, &mut cells.value, members, settings);
         put_registry(registries, cells);
         self.serving.put(held);
         self.changes.fetch_add(1, SeqCst);
@@ -336,14 +337,14 @@ impl<
         let seed = self.seeds.fetch_add(1, SeqCst);
         match built_of(alloc, members, self.origin.config(), seed) {
             Ok(mut built) => {
-                built.loads = self.loads.words(rt, alloc, seed, members);
+                built.drawn.loads = self.loads.words(rt, alloc, seed, members);
                 Ok(built)
             }
             Err(Refusal::OutOfMemory) => {
                 let registries = self.origin.registry();
                 let held = self.serving.take(rt);
                 let cells = take_registry(registries, rt);
-                let cause = held.value.cause(&cells.value, members);
+                let cause = held.value.served.cause(&cells.value, members);
                 put_registry(registries, cells);
                 self.serving.put(held);
                 Err(cause)
@@ -367,7 +368,8 @@ impl<
         Arc::new(alloc, ready).ok()
     }
 
-    // Serves the selector of another membership from now on. What isn't served then is dropped outside the locks.
+    // Serves the selector of another membership from now on, and answers whether it does. What isn't served then is dropped outside the
+    // locks.
     fn renew<W: Wait>(
         &self,
         rt: &W,
@@ -376,7 +378,7 @@ impl<
         settings: Settings,
         built: BuiltSelector<S>,
         ready: Option<Arc<Readiness<S, D, R, C>>>,
-    ) -> Result<(), Refusal>
+    ) -> Result<bool, Refusal>
         requires members { S.members (arc_value built.selector) ≡ members.keys }
         requires config { S.built_with (arc_value built.selector) ≡ self.now.config }
         requires discovered { MayGive self.now.discovery members.keys (settings_of settings.entries) }
@@ -386,14 +388,14 @@ impl<
     {
         let _key = &self.origin;
         let mut held = self.serving.take(rt);
-        held.value.founded();
+        held.value.served.founded();
         let registries = self.origin.registry();
         let mut cells = take_registry(registries, rt);
         let (unserved, answer) = held
             .value
             .renew(alloc, &mut cells.value, members, settings, built);
         let unshown = match answer {
-            Ok(()) => self.exchange(rt, alloc, &held.value, &cells.value, ready),
+            Ok(_) => self.exchange(rt, alloc, &held.value, &cells.value, ready),
             Err(_) => None,
         };
         put_registry(registries, cells);
@@ -412,7 +414,7 @@ impl<
         registry: &Registry<R>,
         ready: Option<Arc<Readiness<S, D, R, C>>>,
     ) -> Option<KeptShown<S, D, R, C>>
-        requires served { IsServedBy self.now serving.now }
+        requires served { IsServedBy self.now serving.now.served }
         requires registry { IsRegistryOf R.gives self.now.registry registry.now }
         requires ready { IfSome ready (λ r. (arc_value r).balancer ≡ self.now) }
     {
@@ -431,10 +433,10 @@ impl<
 
     // Notes the generation that is served.
     fn note_generation(&self, serving: &Serving<S>)
-        requires { IsServedBy self.now serving.now }
+        requires { IsServedBy self.now serving.now.served }
     {
         let _key = &self.origin;
-        self.generation.note(0, serving.generation());
+        self.generation.note(0, serving.served.generation());
     }
 
     // Shows this from now on. Returns what was shown before.
@@ -527,7 +529,7 @@ impl<
         let _key = &self.origin;
         let held = self.serving.take(rt);
         self.note_generation(&held.value);
-        let generation = held.value.generation();
+        let generation = held.value.served.generation();
         self.serving.put(held);
         generation
     }
@@ -552,7 +554,7 @@ impl<
     {
         let _key = &self.origin;
         let mut held = self.serving.take(rt);
-        held.value.set_enable(backend, enabled);
+        held.value.served.set_enable(backend, enabled);
         self.serving.put(held);
         self.changes.fetch_add(1, SeqCst);
         self.judge_all(rt);
@@ -582,7 +584,7 @@ impl<
         let _key = &self.origin;
         let registries = self.origin.registry();
         let held = self.serving.take(rt);
-        held.value.founded();
+        held.value.served.founded();
         let mut cells = take_registry(registries, rt);
         held.value.leave(&mut cells.value);
         put_registry(registries, cells);
@@ -629,7 +631,7 @@ impl<
         alloc: Global,
         serving: &Serving<S>,
     ) -> Result<(KeptShown<S, D, R, C>, KeptShown<S, D, R, C>), Refusal>
-        requires { IsServedBy self.now serving.now }
+        requires { IsServedBy self.now serving.now.served }
         ensures kept { IfOk result (λ k. IsKept R.gives self.now k.0.shown k.0.ready) }
         ensures refused { IfErr result (λ e. e ≡ Refusal.OutOfMemory) }
     {
@@ -653,31 +655,6 @@ impl<
         let kept = KeptShown::new(told?, latest.ready);
         let again = kept.try_clone()?;
         Ok((again, self.swap(rt, kept)))
-    }
-}
-
-impl<
-    S: BackendSelection,
-    D: ServiceDiscovery + Drop,
-    R: KeyRule + Drop + Send,
-    C: HealthCheck + Drop + Send + Sync,
-> Balancing<S, D, R, C> {
-    /// Checks the targets of the whole registry once, if a check is set: one after another, or with `parallel` at the same time.
-    ///
-    /// # Errors
-    ///
-    /// Those of `HealthRegistry::run_health_check`.
-    pub(crate) fn run_health_check<W: Log + Threads + Wait + Sync>(
-        &self,
-        rt: &W,
-        alloc: Global,
-        parallel: bool,
-    ) -> Result<(), Refusal>
-        ensures { OnErr result (IsGrowthRefusal result) }
-    {
-        let result = self.origin.registry().run_health_check(rt, alloc, parallel);
-        self.judge_all(rt);
-        result
     }
 }
 
@@ -708,7 +685,7 @@ fn shown_of<S: BackendSelection, D, R: KeyRule + Drop, C>(
     version: Version,
     origin: &Origin<S, D, R, C>,
 ) -> Result<Arc<Shown<S>>, Refusal>
-    requires served { IsServedBy origin.now serving.now }
+    requires served { IsServedBy origin.now serving.now.served }
     requires registry { IsRegistryOf R.gives origin.now.registry registry.now }
     ensures shown { IfOk result (λ s. IsShownBy R.gives origin.now (arc_value s)) }
     ensures refused { IfErr result (λ e. e ≡ Refusal.OutOfMemory) }
@@ -727,7 +704,7 @@ fn places_over<S: BackendSelection, D, R: KeyRule + Drop, C: HealthCheck + Drop,
     serving: Serving<S>,
     origin: &Origin<S, D, R, C>,
 ) -> Result<Places<S, D, R, C>, Refusal>
-    requires { IsServedBy origin.now serving }
+    requires { IsServedBy origin.now serving.served }
     ensures made { IfOk result (λ p. (p.serving.table.shared.key.value ≡ origin.now) × (p.shown.table.shared.key.value ≡ origin.now)
         × (p.generation.words.table.shared.key.value ≡ origin.now) × All (λ lane. lane.slot ≡ origin.now) p.lanes.lanes.items) }
     ensures refused { IfErr result (λ e. e ≡ Refusal.OutOfMemory) }

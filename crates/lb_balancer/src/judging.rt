@@ -89,13 +89,13 @@ impl<
     {
         let _key = &self.origin;
         let held = self.serving.take(rt);
-        if held.value.generation() != generation {
+        if held.value.served.generation() != generation {
             self.serving.put(held);
             return None;
         }
         let registries = self.origin.registry();
         let cells = take_registry(registries, rt);
-        let ready = held.value.ready(&cells.value, backend);
+        let ready = held.value.served.ready(&cells.value, backend);
         put_registry(registries, cells);
         self.serving.put(held);
         Some(ready)
@@ -125,9 +125,9 @@ impl<
         let _key = &self.origin;
         let registries = self.origin.registry();
         let held = self.serving.take(rt);
-        let _generation = held.value.generation();
+        let _generation = held.value.served.generation();
         let cells = take_registry(registries, rt);
-        let ready = held.value.ready(&cells.value, backend);
+        let ready = held.value.served.ready(&cells.value, backend);
         put_registry(registries, cells);
         self.serving.put(held);
         ready

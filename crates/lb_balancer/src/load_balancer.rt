@@ -30,7 +30,7 @@ use std::thread::Threads;
 /// A balancer with one selector that threads share. Its frequencies are set before it is shared.
 ///
 /// A selection goes on in what was served when it began: one generation, its selector, and which of its members were ready. Its drop
-/// takes no lock and no memory: the next call of the registry removes its view, so that its backends are checked no longer.
+/// takes no lock and no memory: the next call of the registry marks its view for removal, so that its backends are checked no longer.
 #[derive(Drop)]
 pub struct LoadBalancer<
     S: BackendSelection,
@@ -251,6 +251,6 @@ impl<
     ) -> Result<(), Refusal>
         ensures { OnErr result (IsGrowthRefusal result) }
     {
-        self.shared.run_health_check(rt, alloc, parallel)
+        self.backends().run_health_check(rt, alloc, parallel)
     }
 }

@@ -77,7 +77,8 @@ impl<
         let origin = Origin {
             discovery,
             config: None,
-            first: serving.generation(),
+            first: serving.served.generation(),
+            view_id: serving.served.view_id(),
             registry: Arc::new(alloc, HealthRegistry::over(alloc, registry)?)?,
         };
         let shared = Balancing::begun(rt, alloc, origin, serving, timing)?;

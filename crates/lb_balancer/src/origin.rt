@@ -15,13 +15,14 @@ use std::marker::Model;
 use std::snapshot::Snapshot;
 use std::sync::Arc;
 
-/// The discovery, the configuration of the selectors, the generation at which the balancer was made, and the registry of its health, which
-/// others may share. Contracts see the registry as it was when it came under its lock.
+/// The discovery, the configuration of the selectors, the generation at which the balancer was made, the number of its view, and the
+/// registry that the view is in, which others may share. Contracts see the registry as it was when it came under its lock.
 #[derive(Drop)]
 pub struct Origin<S: BackendSelection, D, R: KeyRule + Drop, C> {
     pub(crate) discovery: DiscoverySource<D>,
     pub(crate) config: Option<S::Config>,
     pub(crate) first: u64,
+    pub(crate) view_id: u64,
     pub(crate) registry: Arc<HealthRegistry<R, C>>,
 }
 
@@ -36,6 +37,7 @@ impl<S: BackendSelection, D, R: KeyRule + Drop, C> Model for Origin<S, D, R, C> 
       discovery = o.discovery;
       config = unwrap_or o.config S.default_config;
       first = o.first;
+      view_id = o.view_id;
       registry = (arc_value o.registry).start;
     } };
 }
@@ -73,7 +75,7 @@ impl<S: BackendSelection, D, R: KeyRule + Drop, C> LockRule<
 > for OfServing {
     ghost use Rattle.lb_balancer.specs.History.{IsServedBy};
 
-    ghost holds = { λ key s. IsServedBy key.value s };
+    ghost holds = { λ key s. IsServedBy key.value s.served };
 }
 
 /// The number is a generation that the balancer served, at some moment.

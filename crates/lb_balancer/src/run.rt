@@ -49,7 +49,7 @@ impl<
         let balancing = &self.shared;
         let parallel = self.parallel_health_check;
         let pass = || {
-            let _ = balancing.run_health_check(rt, alloc, parallel);
+            let _ = self.run_health_check(rt, alloc, parallel);
         };
         run_over(balancing, &pass, rt, alloc, clock, watch, notifier, run);
     }

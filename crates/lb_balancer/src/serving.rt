@@ -1,17 +1,15 @@
 //! What a balancer serves, as a plain value: a view with the selector of its newest membership, and the selector's words. Each call is
 //! made under a lock; nothing is built and nothing is dropped here.
-ghost use Rattle.std.specs.Prelude.{◌≡◌, ◌⊎◌, List, ◌∷◌, IfOk, IfErr, OnOk, OnErr, Err, true, unwrap_or};
+ghost use Rattle.std.specs.Prelude.{◌≡◌, List, ◌∷◌, IfOk, IfErr, OnErr, if◌then◌else◌, unwrap_or};
 ghost use Rattle.std.specs.Arc.{arc_value};
-ghost use Rattle.lb_select_base.specs.Memberships.{same_members};
 ghost use Rattle.lb_select_base.specs.Refusals.{Refuses};
-ghost use Rattle.lb_health_core.specs.Registry.{IsRegistryAfter, KeepsHistory};
+ghost use Rattle.lb_health_core.specs.Registry.{IsRegistryAfter};
 ghost use Rattle.lb_health_core.specs.RegistryEvents.{Marked, Released};
-ghost use Rattle.lb_health_view.specs.Causes.{IsRegistryRefusal};
-ghost use Rattle.lb_health_view.specs.Views.{IsFounded, IsViewAfter, IsViewRefusal, HoldsOfBoth};
-ghost use Rattle.lb_health_view.specs.RegistrySide.{registry_updated, settings_of, view_updated};
+ghost use Rattle.lb_health_view.specs.Views.{IsViewAfter, HoldsOfBoth};
+ghost use Rattle.lb_health_view.specs.RegistrySide.{settings_of};
 ghost use Rattle.lb_health_view.specs.ViewEvents.{ViewEvent, generation_after, membership_after};
 ghost use Rattle.lb_balancer_core.specs.Balancer.{IsJudged};
-ghost use Rattle.lb_balancer_core.specs.ServedViews.{IsLeastCause, SetsFlag, Takes, TakesIn};
+ghost use Rattle.lb_balancer_core.specs.ServedViews.{IsRenewed};
 ghost use Rattle.lb_balancer.specs.Shown.{AreUnready, ShowsView};
 
 use crate::shown::{Shown, Version};
@@ -27,81 +25,54 @@ use lb_threads_core::loads::{LoadWords, SharedLoads};
 use rand_pcg::Pcg64;
 use std::alloc::Global;
 use std::collections::BTreeSet;
-use std::marker::Model;
 use std::mem;
 use std::sync::{Arc, Wait};
 
-/// A selector with a source of words of its own, and with words for the loads of its members, where memory wasn't refused.
-pub struct BuiltSelector<S: BackendSelection> {
-    pub selector: Arc<S>,
+/// What selections draw of: words of a selector's own, and words for the loads of its members, where memory wasn't refused.
+#[derive(Drop)]
+pub struct DrawnWords {
     pub words: Arc<SharedWords>,
     pub loads: Option<Arc<LoadWords>>,
 }
 
-impl<S: BackendSelection> Drop for BuiltSelector<S> {
-    fn drop(self) {
-        let BuiltSelector {
-            selector: _,
-            words: _,
-            loads: _,
-        } = self;
+impl DrawnWords {
+    // The words for the loads, once more.
+    fn loads_again(&self) -> Option<Arc<LoadWords>> {
+        match &self.loads {
+            Some(words) => Arc::try_clone(words).ok(),
+            None => None,
+        }
     }
 }
 
-impl<S: BackendSelection> BuiltSelector<S> {
-    // The selector, its words, and those for the loads.
-    fn into_parts(self) -> (Arc<S>, Arc<SharedWords>, Option<Arc<LoadWords>>)
-        ensures { result.0 ≡ self.selector }
-    {
-        let BuiltSelector {
-            selector,
-            words,
-            loads,
-        } = self;
-        (selector, words, loads)
-    }
+/// A selector with words of its own.
+#[derive(Drop)]
+pub struct BuiltSelector<S: BackendSelection> {
+    pub selector: Arc<S>,
+    pub drawn: DrawnWords,
 }
 
-/// A view with the selector of its newest membership, as contracts see it, and the selector's words.
+/// A view with the selector of its newest membership, and that selector's words.
+#[derive(Drop)]
 pub struct Serving<S: BackendSelection> {
-    served: ServedView<S>,
-    words: Arc<SharedWords>,
-    loads: Option<Arc<LoadWords>>,
-}
-
-impl<S: BackendSelection> Drop for Serving<S> {
-    fn drop(self) {
-        let Serving {
-            served: _,
-            words: _,
-            loads: _,
-        } = self;
-    }
-}
-
-impl<S: BackendSelection> Model for Serving<S> {
-    ghost use Rattle.lb_balancer_core.specs.ServedViews.{ServedViewValue};
-
-    ghost Value = { ServedViewValue S.Config };
-
-    ghost view = { λ s. s.served };
+    pub(crate) served: ServedView<S>,
+    pub(crate) drawn: DrawnWords,
 }
 
 impl<S: BackendSelection> Serving<S> {
     /// Returns what is served by this view with this selector of its newest membership.
     pub fn new(view: ViewCore, built: BuiltSelector<S>) -> Serving<S>
         requires { (views : List ViewEvent) × IsViewAfter views view × (S.members (arc_value built.selector) ≡ membership_after views) }
-        ensures { result ≡ record {
+        ensures { result.served ≡ record {
           view = view;
           members = S.members (arc_value built.selector);
           config = S.built_with (arc_value built.selector);
         } }
     {
-        let (selector, words, loads) = built.into_parts();
+        let BuiltSelector { selector, drawn } = built;
         Serving {
             served: ServedView::new(view, selector),
-            words,
-            loads,
+            drawn,
         }
     }
 
@@ -113,76 +84,22 @@ impl<S: BackendSelection> Serving<S> {
         served: ServedView<S>,
         generator: Pcg64,
     ) -> Result<Serving<S>, Refusal>
-        ensures same { IfOk result (λ s. s ≡ served) }
+        ensures same { IfOk result (λ s. s.served ≡ served) }
         ensures refused { IfErr result (λ e. e ≡ Refusal.OutOfMemory) }
     {
         let words = Arc::new(alloc, SharedWords::new(generator))?;
-        Ok(Serving {
-            served,
-            words,
-            loads: None,
-        })
-    }
-
-    /// States that some history explains the view, so that what holds after each of its histories holds after one.
-    ///
-    /// Only for the prover: it does nothing at run time.
-    pub fn founded(&self)
-        ensures { IsFounded self.now.view }
-    {
-        self.served.founded();
+        let drawn = DrawnWords { words, loads: None };
+        Ok(Serving { served, drawn })
     }
 
     /// Has words of this number for the loads of the newest membership.
     pub fn take_loads<W: Wait>(&mut self, rt: &W, alloc: Global, loads: &SharedLoads, number: u64)
-        ensures { self.new ≡ self.old }
+        ensures { self.new.served ≡ self.old.served }
     {
-        self.loads = loads.words(rt, alloc, number, self.served.members());
+        self.drawn.loads = loads.words(rt, alloc, number, self.served.members());
     }
 
-    /// Returns the number of the view in its registry.
-    pub fn view_id(&self) -> u64
-        ensures { result ≡ self.now.view.id }
-    {
-        self.served.view_id()
-    }
-
-    /// Returns the newest generation; 0 before the first membership.
-    pub fn generation(&self) -> u64
-        ensures { (views : List ViewEvent) → IsViewAfter views self.now.view → result ≡ generation_after views }
-    {
-        self.served.generation()
-    }
-
-    /// Returns whether the newest membership is this one, by identity, without taking memory.
-    pub fn is_membership(&self, members: &BTreeSet<Backend>) -> bool
-        ensures { result ≡ same_members members.now.keys self.now.members }
-    {
-        self.served.is_membership(members)
-    }
-
-    /// Takes settings of a discovery that gave the same membership.
-    pub fn keep<R: KeyRule + Drop>(
-        &mut self,
-        alloc: Global,
-        registry: &mut Registry<R>,
-        members: BTreeSet<Backend>,
-        settings: Settings,
-    )
-        requires { same_members members.keys self.old.members ≡ true }
-        ensures updated { HoldsOfBoth R.gives self.old.view registry.old (λ key_of views events. IsViewAfter
-            (view_updated key_of self.old.view.id members.keys (settings_of settings.entries) events views) self.new.view) }
-        ensures registry { KeepsHistory R.gives registry.old registry.new }
-        ensures took { Takes members.keys (settings_of settings.entries) self.old self.new }
-        ensures taken { TakesIn members.keys (settings_of settings.entries) self.old self.new }
-        ensures members { self.new.members ≡ self.old.members }
-        ensures config { self.new.config ≡ self.old.config }
-        ensures one_registry { registry.new.id ≡ registry.old.id }
-    {
-        self.served.keep(alloc, registry, members, settings);
-    }
-
-    /// Shows another membership, and serves the selector that is built of it. Returns what isn't served then.
+    /// Shows another membership, and serves the selector that is built of it. Returns what isn't served then, and whether this selector is.
     ///
     /// The same membership changes nothing but flags. What is returned is what was served before, or what was built in vain.
     ///
@@ -196,94 +113,33 @@ impl<S: BackendSelection> Serving<S> {
         members: BTreeSet<Backend>,
         settings: Settings,
         built: BuiltSelector<S>,
-    ) -> (BuiltSelector<S>, Result<(), Refusal>)
+    ) -> (BuiltSelector<S>, Result<bool, Refusal>)
         requires members { S.members (arc_value built.selector) ≡ members.keys }
-        requires config { S.built_with (arc_value built.selector) ≡ self.old.config }
-        ensures updated { OnOk result.1 (HoldsOfBoth R.gives self.old.view registry.old (λ key_of views events. IsViewAfter
-            (view_updated key_of self.old.view.id members.keys (settings_of settings.entries) events views) self.new.view)) }
-        ensures registry { OnOk result.1 (HoldsOfBoth R.gives self.old.view registry.old
-            (λ key_of views events. IsRegistryAfter R.gives key_of
-            (registry_updated key_of self.old.view.id members.keys views events) registry.new)) }
-        ensures took { OnOk result.1 (Takes members.keys (settings_of settings.entries) self.old self.new) }
-        ensures taken { OnOk result.1 (TakesIn members.keys (settings_of settings.entries) self.old self.new) }
-        ensures view_err { OnErr result.1 ((views : List ViewEvent) → IsViewAfter views self.old.view → IsViewAfter views self.new.view) }
-        ensures registry_err { OnErr result.1 (KeepsHistory R.gives registry.old registry.new) }
-        ensures members_err { OnErr result.1 (self.new.members ≡ self.old.members) }
-        ensures refused { OnErr result.1 (IsViewRefusal result.1) }
-        ensures least { IfErr result.1 (IsLeastCause R.gives self.old.view registry.old members.keys) }
-        ensures config { self.new.config ≡ self.old.config }
-        ensures one_registry { registry.new.id ≡ registry.old.id }
+        requires config { S.built_with (arc_value built.selector) ≡ self.old.served.config }
+        ensures view { IsRenewed R.gives members.keys (settings_of settings.entries) self.old.served registry.old result.1
+            self.new.served registry.new }
+        ensures drawn { IfOk result.1 (λ renewed. self.new.drawn ≡ (if renewed then built.drawn else self.old.drawn)) }
+        ensures drawn_err { OnErr result.1 (self.new.drawn ≡ self.old.drawn) }
     {
-        let (selector, words, loads) = built.into_parts();
+        let BuiltSelector { selector, drawn } = built;
         let (selector, answer) = self
             .served
             .renew(alloc, registry, members, settings, selector);
         match answer {
             Ok(true) => {
-                let unserved = BuiltSelector {
-                    selector,
-                    words: mem::replace(&mut self.words, words),
-                    loads: mem::replace(&mut self.loads, loads),
-                };
-                (unserved, Ok(()))
+                let drawn = mem::replace(&mut self.drawn, drawn);
+                (BuiltSelector { selector, drawn }, answer)
             }
-            Ok(false) => {
-                let unserved = BuiltSelector {
-                    selector,
-                    words,
-                    loads,
-                };
-                (unserved, Ok(()))
-            }
-            Err(refusal) => {
-                let unserved = BuiltSelector {
-                    selector,
-                    words,
-                    loads,
-                };
-                (unserved, Err(refusal))
-            }
+            _ => (BuiltSelector { selector, drawn }, answer),
         }
-    }
-
-    /// Returns the least cause for which view and registry refuse another membership, or `OutOfMemory` where none applies.
-    ///
-    /// It takes no memory.
-    pub fn cause<R: KeyRule + Drop>(
-        &self,
-        registry: &Registry<R>,
-        members: &BTreeSet<Backend>,
-    ) -> Refusal
-        ensures kind { (result ≡ Refusal.GenerationsExhausted) ⊎ IsRegistryRefusal result }
-        ensures least { IsLeastCause R.gives self.now.view registry.now members.now.keys result }
-    {
-        self.served.cause(registry, members)
-    }
-
-    /// Returns whether a backend is ready in the newest membership, without taking memory.
-    pub fn ready<R: KeyRule + Drop>(&self, registry: &Registry<R>, backend: &Backend) -> bool
-        ensures { IsJudged R.gives self.now.view registry.now backend.now result }
-    {
-        self.served.ready(registry, backend)
-    }
-
-    /// Enables or disables a backend that the newest membership lists, by identity; another is left alone.
-    ///
-    /// It takes no memory.
-    pub fn set_enable(&mut self, backend: &Backend, enabled: bool)
-        ensures view { SetsFlag backend.now enabled self.old self.new }
-        ensures members { self.new.members ≡ self.old.members }
-        ensures config { self.new.config ≡ self.old.config }
-    {
-        self.served.set_enable(backend, enabled);
     }
 
     /// Marks the view for removal from the registry, and releases the cells of its newest generation.
     ///
     /// It takes no memory.
     pub fn leave<R: KeyRule + Drop>(&self, registry: &mut Registry<R>)
-        ensures after { HoldsOfBoth R.gives self.now.view registry.old (λ key_of views events. IsRegistryAfter R.gives key_of
-            (Released self.now.view.id (generation_after views) ∷ Marked self.now.view.id ∷ events) registry.new) }
+        ensures after { HoldsOfBoth R.gives self.now.served.view registry.old (λ key_of views events. IsRegistryAfter R.gives key_of
+            (Released self.now.served.view.id (generation_after views) ∷ Marked self.now.served.view.id ∷ events) registry.new) }
         ensures one_registry { registry.new.id ≡ registry.old.id }
     {
         let id = self.served.view_id();
@@ -301,9 +157,9 @@ impl<S: BackendSelection> Serving<S> {
         loads: &Arc<SharedLoads>,
         version: Version,
     ) -> Result<Shown<S>, Refusal>
-        ensures shows { IfOk result (λ s. ShowsView self.now.view s) }
-        ensures judged { IfOk result (λ s. AreUnready (IsJudged R.gives self.now.view registry.now) s.members s.unready) }
-        ensures config { IfOk result (λ s. s.config ≡ self.now.config) }
+        ensures shows { IfOk result (λ s. ShowsView self.now.served.view s) }
+        ensures judged { IfOk result (λ s. AreUnready (IsJudged R.gives self.now.served.view registry.now) s.members s.unready) }
+        ensures config { IfOk result (λ s. s.config ≡ self.now.served.config) }
         ensures refused { IfErr result (λ e. e ≡ Refusal.OutOfMemory) }
     {
         // For the prover alone: it does nothing at run time.
@@ -312,20 +168,12 @@ impl<S: BackendSelection> Serving<S> {
             generation: self.served.generation(),
             members: self.served.get_backend()?,
             selector: Arc::try_clone(self.served.selector())?,
-            words: Arc::try_clone(&self.words)?,
+            words: Arc::try_clone(&self.drawn.words)?,
             loads: Arc::try_clone(loads)?,
-            load_words: self.loads_again(),
+            load_words: self.drawn.loads_again(),
             unready: unready_of(alloc, &self.served, registry)?,
             version,
         })
-    }
-
-    // The words for the loads, once more.
-    fn loads_again(&self) -> Option<Arc<LoadWords>> {
-        match &self.loads {
-            Some(words) => Arc::try_clone(words).ok(),
-            None => None,
-        }
     }
 }
 
@@ -344,11 +192,8 @@ pub(crate) fn built_of<S: BackendSelection>(
 {
     let selector = selector_of::<S>(alloc, members, config)?;
     let words = Arc::new(alloc, SharedWords::new(Pcg64::new(u128::from(seed), 1)))?;
-    Ok(BuiltSelector {
-        selector,
-        words,
-        loads: None,
-    })
+    let drawn = DrawnWords { words, loads: None };
+    Ok(BuiltSelector { selector, drawn })
 }
 
 // The members of a view's newest generation that aren't ready. No others are copied.

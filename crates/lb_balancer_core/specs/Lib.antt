@@ -9,6 +9,7 @@ pub mod Internal
 pub mod Lent
 pub mod Looks
 pub mod Plain
+pub mod ServedUpdates
 pub mod ServedViews
 pub mod SlotConfigs
 pub mod Texts

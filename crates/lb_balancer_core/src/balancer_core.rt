@@ -1,18 +1,18 @@
 //! A discovery with one selector, which an update builds: what is served is always the newest generation.
-ghost use Rattle.std.specs.Prelude.{◌≡◌, ◌↔◌, ◌≤◌, ◌+◌, ◌^◌, ◌∷◌, ◌⊎◌, [], ℕ, List, Ok, Err, None, Some, unwrap_or, IfOk};
-ghost use Rattle.std.specs.Prelude.{IfErr, IsErrOf, OnOk, OnErr};
+ghost use Rattle.std.specs.Prelude.{◌≡◌, ◌+◌, ◌∷◌, ◌⊎◌, [], ℕ, List, Ok, Err, None, Some, unwrap_or, IfOk};
+ghost use Rattle.std.specs.Prelude.{IfErr, OnOk, OnErr};
 ghost use Rattle.std.specs.Borrow.{Bor};
 ghost use Rattle.std.specs.Iterator.{Drains, IsFinite};
 ghost use Rattle.lb_select_base.specs.Backends.{Member};
-ghost use Rattle.lb_select_base.specs.Loads.{SetsLoad, load_in};
-ghost use Rattle.lb_select_base.specs.Refusals.{memory_apart};
-ghost use Rattle.lb_health_core.specs.Registry.{IsRegistryAfter, HoldsOf, Grows, KeepsHistory};
-ghost use Rattle.lb_health_core.specs.RegistryEvents.{Applied, Marked, Registered, registered_after};
+ghost use Rattle.lb_select_base.specs.Loads.{load_in};
+ghost use Rattle.lb_health_core.specs.Registry.{IsRegistryAfter, HoldsOf, Grows};
+ghost use Rattle.lb_health_core.specs.RegistryEvents.{Marked, registered_after};
 ghost use Rattle.lb_health_view.specs.ViewEvents.{generation_after};
-ghost use Rattle.lb_rebuild_core.specs.GroupCalls.{AcceptsBy, IsMakingRefusal};
+ghost use Rattle.lb_rebuild_core.specs.GroupCalls.{AcceptsBy, IsMade};
 ghost use Rattle.lb_balancer_core.specs.Choices.{Chooses};
 ghost use Rattle.lb_balancer_core.specs.Balancer.{After, Drew, Judges, Stands, view_events};
 ghost use Rattle.lb_balancer_core.specs.BalancerUpdates.{IsUpdated, IsRefusal};
+ghost use Rattle.lb_balancer_core.specs.ServedUpdates.{IsLoadSet, KeepsServed};
 ghost use Rattle.lb_balancer_core.specs.Texts.{IsOfTextsIn, IsTextsRefusal, one_more};
 
 use crate::lent::LentBackends;
@@ -27,13 +27,14 @@ use lb_select_base::refusal::Refusal;
 use lb_select_base::walk::BackendSelection;
 use lb_select_base::words::{CoreWords, WordSource};
 use rand_core::Rng;
+use rand_pcg::Pcg64;
 use std::alloc::Global;
 use std::net::Net;
 
 /// A discovery, what is served of its backends, and how long the last accepted update took. Selections and readings are those of
 /// what is served.
 #[derive(Drop)]
-pub struct LoadBalancerCore<S: BackendSelection, G: Drop, D = BoxedDiscovery> {
+pub struct LoadBalancerCore<S: BackendSelection, G: Drop = Pcg64, D = BoxedDiscovery> {
     pub discovery: DiscoverySource<D>,
     pub served: Served<S, G>,
     pub timing: Option<UpdateTimings>,
@@ -54,14 +55,8 @@ impl<S: BackendSelection, G: Rng + Drop, D: ServiceDiscovery + Drop> LoadBalance
     ) -> Result<LoadBalancerCore<S, G, D>, Refusal>
         ensures stands { IfOk result (λ b. Stands [] b.served × (b.served.config ≡ S.default_config)
             × (b.served.words.generator ≡ generator) × ((m : Member) → load_in b.served.words.loads m ≡ 0)) }
-        ensures id { IfOk result (λ b. HoldsOf R.gives registry.old (λ key_of events. b.served.view.id ≡ registered_after events + 1)) }
         ensures parts { IfOk result (λ b. (b.discovery ≡ discovery) × (b.timing ≡ None)) }
-        ensures registry { OnOk result (Grows R.gives registry.old (λ events. Applied ∷ Registered ∷ events) registry.new) }
-        ensures err { OnErr result (KeepsHistory R.gives registry.old registry.new) }
-        ensures exhausted { HoldsOf R.gives registry.old (λ key_of events. memory_apart (S.refusal [] S.default_config) ≡ None
-            → (IsErrOf result Refusal.NumbersExhausted ↔ (2 ^ 64 ≤ registered_after events + 1))) }
-        ensures refused { IsMakingRefusal (S.refusal [] S.default_config) result }
-        ensures one_registry { registry.new.id ≡ registry.old.id }
+        ensures made { IsMade R.gives (S.refusal [] S.default_config) registry.old result (λ b. b.served.view.id) registry.new }
     {
         LoadBalancerCore::from_backends_with_config(alloc, registry, discovery, None, generator)
     }
@@ -80,15 +75,9 @@ impl<S: BackendSelection, G: Rng + Drop, D: ServiceDiscovery + Drop> LoadBalance
     ) -> Result<LoadBalancerCore<S, G, D>, Refusal>
         ensures stands { IfOk result (λ b. Stands [] b.served × (b.served.config ≡ unwrap_or config S.default_config)
             × (b.served.words.generator ≡ generator) × ((m : Member) → load_in b.served.words.loads m ≡ 0)) }
-        ensures id { IfOk result (λ b. HoldsOf R.gives registry.old (λ key_of events. b.served.view.id ≡ registered_after events + 1)) }
         ensures parts { IfOk result (λ b. (b.discovery ≡ discovery) × (b.timing ≡ None)) }
-        ensures registry { OnOk result (Grows R.gives registry.old (λ events. Applied ∷ Registered ∷ events) registry.new) }
-        ensures err { OnErr result (KeepsHistory R.gives registry.old registry.new) }
-        ensures exhausted { HoldsOf R.gives registry.old (λ key_of events. memory_apart (S.refusal []
-            (unwrap_or config S.default_config)) ≡ None → (IsErrOf result Refusal.NumbersExhausted
-            ↔ (2 ^ 64 ≤ registered_after events + 1))) }
-        ensures refused { IsMakingRefusal (S.refusal [] (unwrap_or config S.default_config)) result }
-        ensures one_registry { registry.new.id ≡ registry.old.id }
+        ensures made { IsMade R.gives (S.refusal [] (unwrap_or config S.default_config)) registry.old result
+            (λ b. b.served.view.id) registry.new }
     {
         match Served::new(alloc, registry, config, generator) {
             Ok(served) => Ok(LoadBalancerCore {
@@ -163,16 +152,10 @@ impl<S: BackendSelection, G: Rng + Drop, D: ServiceDiscovery + Drop> LoadBalance
     ) -> Result<(), Refusal>
         ensures updated { OnOk result (IsUpdated D.finds R.gives self.old.discovery self.old.served registry.old S.refusal K.reads clock.old
             clock.new self.new.served registry.new self.new.timing) }
-        ensures err { OnErr result (After self.old.served (λ e. Stands e self.new.served)) }
-        ensures registry_err { OnErr result (KeepsHistory R.gives registry.old registry.new) }
         ensures kept { OnErr result (self.new ≡ record self.old { served = record self.old.served { view = self.new.served.view } }) }
         ensures refused { IfErr result (IsRefusal D.finds R.gives self.old.discovery self.old.served registry.old S.refusal) }
         ensures discovery { self.new.discovery ≡ self.old.discovery }
-        ensures words { (self.new.served.words.generator ≡ self.old.served.words.generator)
-            × (self.new.served.words.loads ≡ self.old.served.words.loads) }
-        ensures config { self.new.served.config ≡ self.old.served.config }
-        ensures id { self.new.served.view.id ≡ self.old.served.view.id }
-        ensures one_registry { registry.new.id ≡ registry.old.id }
+        ensures stays { KeepsServed R.gives self.old.served registry.old result self.new.served registry.new }
     {
         let start = clock.now();
         let (members, settings) = self.discovery.discover(alloc)?;
@@ -227,16 +210,8 @@ impl<S: BackendSelection, G: Rng + Drop, D: ServiceDiscovery + Drop> LoadBalance
     ///
     /// Refused for memory alone, and then nothing is set.
     pub fn set_load(&mut self, alloc: Global, backend: &Backend, load: u64) -> Result<(), Refusal>
-        ensures set { IfOk result (λ _. SetsLoad (load_in self.old.served.words.loads) backend.now load
-            (load_in self.new.served.words.loads)) }
-        ensures refused { IfErr result (λ r. (r ≡ Refusal.OutOfMemory)
-            × ((m : Member) → load_in self.new.served.words.loads m ≡ load_in self.old.served.words.loads m)) }
-        ensures stands { After self.old.served (λ e. Stands e self.new.served) }
-        ensures kept { self.new ≡ record self.old {
-          served = record self.old.served {
-            words = record self.old.served.words { loads = self.new.served.words.loads };
-          };
-        } }
+        ensures set { IsLoadSet self.old.served backend.now load result self.new.served }
+        ensures kept { self.new ≡ record self.old { served = self.new.served } }
     {
         self.served.set_load(alloc, backend, load)
     }

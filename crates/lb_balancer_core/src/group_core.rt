@@ -1,15 +1,15 @@
 //! A discovery with a group of slots, each of which serves a selector of its own that is rebuilt apart from an update.
-ghost use Rattle.std.specs.Prelude.{◌≡◌, ◌↔◌, ◌<◌, ◌≤◌, ◌+◌, ◌^◌, ◌∷◌, [], ℕ, length, map, Ok, Err, Some, None};
-ghost use Rattle.std.specs.Prelude.{IfOk, IfErr, IsErrOf, IsTrue, OnOk, OnErr};
+ghost use Rattle.std.specs.Prelude.{◌≡◌, ◌↔◌, ◌<◌, ◌≤◌, ◌+◌, ◌∷◌, [], ℕ, length, map, Ok, Err, Some, None};
+ghost use Rattle.std.specs.Prelude.{IfOk, IfErr, IsTrue, OnErr};
 ghost use Rattle.lb_select_base.specs.Backends.{Member};
 ghost use Rattle.lb_select_base.specs.Loads.{SetsLoad, load_in};
-ghost use Rattle.lb_select_base.specs.Refusals.{least, memory_apart};
+ghost use Rattle.lb_select_base.specs.Refusals.{least};
 ghost use Rattle.lb_rebuild_core.specs.SlotsCalls.{SelectsIn, at_slot};
 ghost use Rattle.lb_rebuild_core.specs.SlotsHistory.{newest, past_of, served, coalesced, failed, timing as timing_after};
 ghost use Rattle.lb_rebuild_core.specs.SlotsHistory.{Cancelled, is_cancelled};
 ghost use Rattle.lb_health_core.specs.Registry.{HoldsOf, Grows, KeepsHistory};
-ghost use Rattle.lb_health_core.specs.RegistryEvents.{Applied, Marked, Registered, registered_after};
-ghost use Rattle.lb_rebuild_core.specs.GroupCalls.{AcceptsBy, IsMakingRefusal, Judges, after_select, served_at};
+ghost use Rattle.lb_health_core.specs.RegistryEvents.{Marked};
+ghost use Rattle.lb_rebuild_core.specs.GroupCalls.{AcceptsBy, IsGroupMade, IsMade, Judges, after_select, served_at};
 ghost use Rattle.lb_rebuild_core.specs.GroupHistory.{in_group, slot_events};
 ghost use Rattle.lb_rebuild_core.specs.GroupStates.{After, Becomes, SameSite, Stands};
 ghost use Rattle.lb_balancer_core.specs.GroupUpdates.{IsGroupUpdated, IsGroupRefusal};
@@ -59,20 +59,10 @@ impl<S: BackendSelection, D: ServiceDiscovery + Drop> LoadBalancerGroupCore<S, D
         discovery: DiscoverySource<D>,
         configs: Vec<Option<S::Config>>,
     ) -> Result<LoadBalancerGroupCore<S, D>, Refusal>
-        ensures stands { IfOk result (λ b. Stands
-            (record { id = b.group.group.id; gate = gate.now.id; configs = slot_configs S.default_config configs.items }) []
-            b.group) }
-        ensures site { IfOk result (λ b. b.group.registry ≡ registry.old.id) }
-        ensures one_registry { registry.new.id ≡ registry.old.id }
-        ensures gate { IfOk result (λ b. b.group.group.gate ≡ gate.now.id) }
-        ensures id { IfOk result (λ b. HoldsOf R.gives registry.old (λ key_of events. b.group.view.id ≡ registered_after events + 1)) }
+        ensures group { IfOk result (λ b. IsGroupMade (slot_configs S.default_config configs.items) gate.now.id registry.old.id b.group) }
         ensures parts { IfOk result (λ b. (b.discovery ≡ discovery) × (b.timing ≡ None) × ((m : Member) → load_in b.loads m ≡ 0)) }
-        ensures registry { OnOk result (Grows R.gives registry.old (λ events. Applied ∷ Registered ∷ events) registry.new) }
-        ensures err { OnErr result (KeepsHistory R.gives registry.old registry.new) }
-        ensures exhausted { HoldsOf R.gives registry.old (λ key_of events. memory_apart (least (map (S.refusal [])
-            (slot_configs S.default_config configs.items))) ≡ None → (IsErrOf result Refusal.NumbersExhausted
-            ↔ (2 ^ 64 ≤ registered_after events + 1))) }
-        ensures refused { IsMakingRefusal (least (map (S.refusal []) (slot_configs S.default_config configs.items))) result }
+        ensures made { IsMade R.gives (least (map (S.refusal []) (slot_configs S.default_config configs.items))) registry.old result
+            (λ b. b.group.view.id) registry.new }
     {
         match least_cause::<S>(alloc, configs.as_slice()) {
             Some(refusal) => return Err(refusal),
@@ -138,10 +128,7 @@ impl<S: BackendSelection, D: ServiceDiscovery + Drop> LoadBalancerGroupCore<S, D
         let scheduled = self
             .group
             .schedule(alloc, registry, members, settings, moment)?;
-        self.timing = Some(UpdateTimings {
-            discovery_duration: moment.saturating_sub(start),
-            build_duration: 0,
-        });
+        self.timing = Some(UpdateTimings::without_build(start, moment));
         Ok(scheduled)
     }
 

@@ -14,21 +14,30 @@ ghost use Rattle.lb_balancer_core.specs.Balancer.{After, Judges, Set, Stands, me
 use crate::balancer_core::LoadBalancerCore;
 use crate::group_core::LoadBalancerGroupCore;
 use lb_health_core::health_check::HealthCheck;
-use lb_health_core::keys::KeyRule;
+use lb_health_core::keys::{ByNumber, KeyRule, Rule};
 use lb_health_core::registry::Registry;
+use lb_health_view::discovery::BoxedDiscovery;
 use lb_health_view::passes::run_health_check;
 use lb_select_base::backend::Backend;
 use lb_select_base::refusal::Refusal;
 use lb_select_base::walk::BackendSelection;
 use log::Log;
 use rand_core::Rng;
+use rand_pcg::Pcg64;
 use std::alloc::Global;
 use std::collections::BTreeSet;
 use std::sync::Arc;
 
 /// The backends of a balancer, borrowed from it with its registry.
 #[derive(Drop)]
-pub struct LentBackends<'a, 'x, S: BackendSelection, G: Drop, D, R> {
+pub struct LentBackends<
+    'a,
+    'x,
+    S: BackendSelection,
+    G: Drop = Pcg64,
+    D = BoxedDiscovery,
+    R = Rule<ByNumber>,
+> {
     pub(crate) balancer: &'a mut LoadBalancerCore<S, G, D>,
     pub(crate) registry: &'x mut Registry<R>,
 }
@@ -111,7 +120,7 @@ impl<'a, 'x, S: BackendSelection, G: Rng + Drop, D, R: KeyRule + Drop> LentBacke
 
 /// The backends of a group balancer, borrowed from it with its registry.
 #[derive(Drop)]
-pub struct LentGroupBackends<'a, 'x, S: BackendSelection, D, R> {
+pub struct LentGroupBackends<'a, 'x, S: BackendSelection, D = BoxedDiscovery, R = Rule<ByNumber>> {
     pub(crate) balancer: &'a mut LoadBalancerGroupCore<S, D>,
     pub(crate) registry: &'x mut Registry<R>,
     ghost tied: { registry.now.id ≡ balancer.now.group.registry },

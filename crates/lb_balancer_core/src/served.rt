@@ -1,22 +1,22 @@
 //! A view with the selector that is built of its newest membership, and that selector's words: they change as one, or not at all.
-ghost use Rattle.std.specs.Prelude.{◌≡◌, ◌↔◌, ◌≤◌, ◌+◌, ◌-◌, ◌^◌, ◌∷◌, [], ℕ, None, MatchOption, true, false, unwrap_or};
-ghost use Rattle.std.specs.Prelude.{IfOk, IfErr, IsErrOf, OnOk, OnErr};
+ghost use Rattle.std.specs.Prelude.{◌≡◌, ◌+◌, ◌-◌, ◌∷◌, [], ℕ, None, MatchOption, true, false, unwrap_or};
+ghost use Rattle.std.specs.Prelude.{IfOk, IfErr, OnErr};
 ghost use Rattle.std.specs.Arc.{arc_value};
 ghost use Rattle.std.specs.Option.{option_or};
 ghost use Rattle.lb_select_base.specs.Backends.{Member};
 ghost use Rattle.lb_select_base.specs.Refusals.{Refuses, memory_apart};
-ghost use Rattle.lb_select_base.specs.Loads.{SetsLoad, load_in};
+ghost use Rattle.lb_select_base.specs.Loads.{load_in};
 ghost use Rattle.lb_select_base.specs.Memberships.{same_members};
-ghost use Rattle.lb_health_core.specs.Registry.{IsRegistryAfter, HoldsOf, Grows, KeepsHistory};
-ghost use Rattle.lb_health_core.specs.RegistryEvents.{Applied, Registered, registered_after};
+ghost use Rattle.lb_health_core.specs.Registry.{IsRegistryAfter, HoldsOf};
 ghost use Rattle.lb_health_view.specs.Views.{HoldsOfBoth};
 ghost use Rattle.lb_health_view.specs.RegistrySide.{registry_updated, settings_of};
 ghost use Rattle.lb_health_view.specs.ViewEvents.{generation_after};
-ghost use Rattle.lb_rebuild_core.specs.GroupCalls.{AcceptsBy, IsMakingRefusal};
+ghost use Rattle.lb_rebuild_core.specs.GroupCalls.{AcceptsBy, IsMade};
 ghost use Rattle.lb_balancer_core.specs.Choices.{Chooses};
 ghost use Rattle.lb_balancer_core.specs.Balancer.{After, Drew, History, IsJudged, Judges, Set, Stands, members_now, update_cause};
 ghost use Rattle.lb_balancer_core.specs.Balancer.{updated, view_events};
 ghost use Rattle.lb_health_view.specs.Causes.{view_cause};
+ghost use Rattle.lb_balancer_core.specs.ServedUpdates.{IsLoadSet, KeepsServed};
 ghost use Rattle.lb_balancer_core.specs.Timings.{Reads};
 
 use crate::served_view::{ServedView, selector_of};
@@ -31,6 +31,7 @@ use lb_select_base::select::select;
 use lb_select_base::walk::BackendSelection;
 use lb_select_base::words::{CoreWords, WordSource};
 use rand_core::Rng;
+use rand_pcg::Pcg64;
 use std::alloc::Global;
 use std::collections::BTreeSet;
 use std::marker::Model;
@@ -38,7 +39,7 @@ use std::sync::Arc;
 
 /// What a `Served` is made of: a view with the selector of its newest membership, and the generator of random words.
 #[derive(Drop)]
-pub struct ServedParts<S: BackendSelection, G: Drop> {
+pub struct ServedParts<S: BackendSelection, G: Drop = Pcg64> {
     pub served: ServedView<S>,
     pub generator: G,
 }
@@ -47,7 +48,7 @@ pub struct ServedParts<S: BackendSelection, G: Drop> {
 /// counter of tickets began at 0 when it was built.
 ///
 /// Contracts describe it by the history of its events; some history explains each.
-pub struct Served<S: BackendSelection, G: Drop> {
+pub struct Served<S: BackendSelection, G: Drop = Pcg64> {
     served: ServedView<S>,
     // None: that of `S::build`.
     config: Option<S::Config>,
@@ -101,14 +102,8 @@ impl<S: BackendSelection, G: Rng + Drop> Served<S, G> {
     ) -> Result<Served<S, G>, Refusal>
         ensures stands { IfOk result (λ v. Stands [] v × (v.config ≡ unwrap_or config S.default_config)
             × (v.words.generator ≡ generator) × ((m : Member) → load_in v.words.loads m ≡ 0)) }
-        ensures id { IfOk result (λ v. HoldsOf R.gives registry.old (λ key_of events. v.view.id ≡ registered_after events + 1)) }
-        ensures registry { OnOk result (Grows R.gives registry.old (λ events. Applied ∷ Registered ∷ events) registry.new) }
-        ensures err { OnErr result (KeepsHistory R.gives registry.old registry.new) }
-        ensures exhausted { HoldsOf R.gives registry.old (λ key_of events. memory_apart (S.refusal []
-            (unwrap_or config S.default_config)) ≡ None → (IsErrOf result Refusal.NumbersExhausted
-            ↔ (2 ^ 64 ≤ registered_after events + 1))) }
-        ensures refused { IsMakingRefusal (S.refusal [] (unwrap_or config S.default_config)) result }
-        ensures one_registry { registry.new.id ≡ registry.old.id }
+        ensures made { IsMade R.gives (S.refusal [] (unwrap_or config S.default_config)) registry.old result
+            (λ v. v.view.id) registry.new }
     {
         let selector = match selector_of::<S>(alloc, &BTreeSet::new(alloc), &config) {
             Ok(selector) => selector,
@@ -153,13 +148,8 @@ impl<S: BackendSelection, G: Rng + Drop> Served<S, G> {
             (same_members members.keys (members_now e) ≡ true) (λ d. same_members members.keys (members_now e) ≡ false))) }
         ensures readings { IfOk result (λ build. MatchOption build (clock.new ≡ clock.old) (λ d. (before : ℕ) × ((after : ℕ)
             × Reads K.reads clock.old (before ∷ after ∷ []) clock.new × (d ≡ after - before)))) }
-        ensures err { OnErr result (After self.old (λ e. Stands e self.new)) }
-        ensures registry_err { OnErr result (KeepsHistory R.gives registry.old registry.new) }
         ensures kept { OnErr result (self.new ≡ record self.old { view = self.new.view }) }
-        ensures words { (self.new.words.generator ≡ self.old.words.generator) × (self.new.words.loads ≡ self.old.words.loads) }
-        ensures id { self.new.view.id ≡ self.old.view.id }
-        ensures config { self.new.config ≡ self.old.config }
-        ensures one_registry { registry.new.id ≡ registry.old.id }
+        ensures stays { KeepsServed R.gives self.old registry.old result self.new registry.new }
     {
         if self.served.is_membership(&members) {
             self.served.keep(alloc, registry, members, settings);
@@ -255,11 +245,7 @@ impl<S: BackendSelection, G: Rng + Drop> Served<S, G> {
     ///
     /// Refused for memory alone, and then nothing is set; the words to come stay.
     pub fn set_load(&mut self, alloc: Global, backend: &Backend, load: u64) -> Result<(), Refusal>
-        ensures set { IfOk result (λ _. SetsLoad (load_in self.old.words.loads) backend.now load (load_in self.new.words.loads)) }
-        ensures refused { IfErr result (λ r. (r ≡ Refusal.OutOfMemory)
-            × ((m : Member) → load_in self.new.words.loads m ≡ load_in self.old.words.loads m)) }
-        ensures stands { After self.old (λ e. Stands e self.new) }
-        ensures kept { self.new ≡ record self.old { words = record self.old.words { loads = self.new.words.loads } } }
+        ensures { IsLoadSet self.old backend.now load result self.new }
     {
         self.words.set_load(alloc, backend, load)
     }

@@ -1,16 +1,16 @@
 //! A view with the selector that is built of its newest membership. Balancers stand on it: plain ones, and those that threads share. Their
 //! calls build first and drop last; here nothing is built, and no selector is dropped, so that each call may be made under a lock.
-ghost use Rattle.std.specs.Prelude.{◌≡◌, ◌⊎◌, List, IfOk, IfErr, OnOk, OnErr, Err, None, true, false, not, unwrap_or};
+ghost use Rattle.std.specs.Prelude.{◌≡◌, ◌⊎◌, List, IfOk, OnErr, Err, true, unwrap_or};
 ghost use Rattle.std.specs.Arc.{arc_value};
 ghost use Rattle.lb_select_base.specs.Memberships.{same_members};
 ghost use Rattle.lb_select_base.specs.Refusals.{Refuses};
-ghost use Rattle.lb_health_core.specs.Registry.{IsRegistryAfter, KeepsHistory};
-ghost use Rattle.lb_health_view.specs.Causes.{IsRegistryRefusal, view_cause};
-ghost use Rattle.lb_health_view.specs.Views.{IsFounded, IsViewAfter, IsViewRefusal, HoldsOfBoth};
-ghost use Rattle.lb_health_view.specs.RegistrySide.{registry_updated, settings_of, view_updated};
+ghost use Rattle.lb_health_core.specs.Registry.{KeepsHistory};
+ghost use Rattle.lb_health_view.specs.Causes.{IsRegistryRefusal};
+ghost use Rattle.lb_health_view.specs.Views.{IsFounded, IsViewAfter, HoldsOfBoth};
+ghost use Rattle.lb_health_view.specs.RegistrySide.{settings_of, view_updated};
 ghost use Rattle.lb_health_view.specs.ViewEvents.{ViewEvent, generation_after, membership_after};
 ghost use Rattle.lb_balancer_core.specs.Balancer.{IsJudged};
-ghost use Rattle.lb_balancer_core.specs.ServedViews.{IsLeastCause, SetsFlag, Takes, TakesIn};
+ghost use Rattle.lb_balancer_core.specs.ServedViews.{IsLeastCause, IsRenewed, SetsFlag, Takes, TakesIn};
 
 use lb_health_core::keys::KeyRule;
 use lb_health_core::registry::Registry;
@@ -171,25 +171,7 @@ impl<S: BackendSelection> ServedView<S> {
     ) -> (Arc<S>, Result<bool, Refusal>)
         requires members { S.members (arc_value selector) ≡ members.keys }
         requires config { S.built_with (arc_value selector) ≡ self.old.config }
-        ensures updated { OnOk result.1 (HoldsOfBoth R.gives self.old.view registry.old (λ key_of views events. IsViewAfter
-            (view_updated key_of self.old.view.id members.keys (settings_of settings.entries) events views) self.new.view)) }
-        ensures registry { OnOk result.1 (HoldsOfBoth R.gives self.old.view registry.old
-            (λ key_of views events. IsRegistryAfter R.gives key_of
-            (registry_updated key_of self.old.view.id members.keys views events) registry.new)) }
-        ensures took { OnOk result.1 (Takes members.keys (settings_of settings.entries) self.old self.new) }
-        ensures taken { OnOk result.1 (TakesIn members.keys (settings_of settings.entries) self.old self.new) }
-        ensures renewed { IfOk result.1 (λ renewed. renewed ≡ not (same_members members.keys self.old.members)) }
-        ensures members { OnOk result.1 (same_members members.keys self.old.members ≡ false → self.new.members ≡ members.keys) }
-        ensures free { OnOk result.1 (same_members members.keys self.old.members ≡ false → HoldsOfBoth R.gives self.old.view registry.old
-            (λ key_of views events. view_cause key_of self.old.view.id members.keys events views ≡ None)) }
-        ensures view_err { OnErr result.1 ((views : List ViewEvent) → IsViewAfter views self.old.view → IsViewAfter views self.new.view) }
-        ensures registry_err { OnErr result.1 (KeepsHistory R.gives registry.old registry.new) }
-        ensures members_err { OnErr result.1 (self.new.members ≡ self.old.members) }
-        ensures refused { OnErr result.1 (IsViewRefusal result.1) }
-        ensures least { IfErr result.1 (IsLeastCause R.gives self.old.view registry.old members.keys) }
-        ensures config { self.new.config ≡ self.old.config }
-        ensures id { self.new.view.id ≡ self.old.view.id }
-        ensures one_registry { registry.new.id ≡ registry.old.id }
+        ensures { IsRenewed R.gives members.keys (settings_of settings.entries) self.old registry.old result.1 self.new registry.new }
     {
         match self
             .view

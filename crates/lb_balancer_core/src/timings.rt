@@ -22,6 +22,16 @@ impl UpdateTimings {
             build_duration,
         }
     }
+
+    /// Returns the timings of an update that built no selector, from its start to its end.
+    pub fn without_build(start: u128, end: u128) -> UpdateTimings
+        ensures { result ≡ record { discovery_duration = end - start; build_duration = 0 } }
+    {
+        UpdateTimings {
+            discovery_duration: end.saturating_sub(start),
+            build_duration: 0,
+        }
+    }
 }
 
 /// How long the last publication of a slot took.

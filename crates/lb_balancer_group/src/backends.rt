@@ -7,7 +7,7 @@ ghost use Rattle.lb_threads_group.specs.Group.{FlaggedUnder, NewestReadyUnder, S
 ghost use Rattle.lb_threads_group.specs.Numbers.{SawNewest};
 
 use crate::group::LoadBalancerGroup;
-use lb_background::lending::{LendsToThreads, SharedBackends};
+use lb_background::lending::{LendsToThreads, SharedBackends, lend};
 use lb_balancer_core::configured::Configured;
 use lb_health_core::health_check::HealthCheck;
 use lb_health_core::keys::KeyRule;
@@ -30,7 +30,7 @@ impl<
     pub fn backends<'g>(&'g self) -> SharedBackends<'g, LoadBalancerGroup<S, D, R, C>>
         ensures { result.lender.now ≡ self.now }
     {
-        SharedBackends::of(self)
+        lend(self)
     }
 }
 

@@ -36,8 +36,8 @@ use std::sync::{Arc, Wait};
 /// A group of slots, each of which serves a selector of its own. Its frequencies are set before threads share it.
 ///
 /// Its drop takes no lock and no memory: its workers cancel it at their next turn, let a build that runs end, destroy what their slots
-/// retired and end; the next call of the registry removes its view, so that its backends are checked no longer, and the cells that the view
-/// alone keeps.
+/// retired and end; the next call of the registry marks its view for removal, so that its backends are checked no longer, and releases the
+/// cells that the view keeps.
 pub struct LoadBalancerGroup<
     S: BackendSelection,
     D: Drop = BoxedDiscovery,

@@ -1,12 +1,13 @@
 //! Readings by passes of a group that its users own, and the updates, entries and selections that go with a pass. A reading loads words of
 //! the group's board: it takes no lock and never waits.
-ghost use Rattle.std.specs.Prelude.{◌≡◌, ◌≤◌, ◌<◌, ◌+◌, Ok, IfOk, IfErr, IfSome, IfNone, MatchBool};
+ghost use Rattle.std.specs.Prelude.{◌≡◌, ◌≤◌, ◌<◌, ◌+◌, IfSome, IfNone, MatchBool};
 ghost use Rattle.std.specs.Arc.{arc_value};
 ghost use Rattle.std.specs.Fn.{FnReturnsAt};
-ghost use Rattle.lb_rebuild.specs.Pass.{IsLoad, IsLater, AreServed, HasSeenBelow, HasMet, newest_of, served_of};
+ghost use Rattle.lb_rebuild.specs.Pass.{IsLoad, IsLater, AreServed, HasSeenBelow, HasMet};
 ghost use Rattle.lb_health_view.specs.Discoveries.{FoundBy};
-ghost use Rattle.lb_threads_group.specs.Group.{EnteredUnder, LeftUnder, UpdatedUnder};
-ghost use Rattle.lb_threads_group.specs.Shared.{IsEntryRefusal, SelectsByAny};
+ghost use Rattle.lb_threads_group.specs.Group.{LeftUnder};
+ghost use Rattle.lb_threads_group.specs.Passes.{IsEntryAt, IsUpdateAt};
+ghost use Rattle.lb_threads_group.specs.Shared.{SelectsByAny};
 
 use crate::group::LoadBalancerGroup;
 use lb_balancer_core::configured::Configured;
@@ -101,10 +102,8 @@ impl<
         pass: &mut GroupPass,
     ) -> Result<u64, Refusal>
         requires { pass.old.board ≡ (arc_value self.now.shared).board }
-        ensures updated { UpdatedUnder R.gives K.reads (FoundBy D.finds) self.now.discovery clock.old (arc_value self.now.shared) result
-            clock.new }
-        ensures seen { IfOk result (λ g. g ≤ newest_of pass.new) }
-        ensures later { IsLater pass.old pass.new }
+        ensures { IsUpdateAt R.gives K.reads (FoundBy D.finds) self.now.discovery clock.old (arc_value self.now.shared) pass.old result
+            clock.new pass.new }
     {
         let told = self.update(rt, alloc, clock);
         if let Ok(generation) = told {
@@ -128,12 +127,7 @@ impl<
         pass: &mut GroupPass,
     ) -> Result<Reader<Configured<S>>, Refusal>
         requires { pass.old.board ≡ (arc_value self.now.shared).board }
-        ensures reader { IfOk result (λ r. (slot + 1 < (arc_value self.now.shared).board.words) × (r.slot ≡ slot)
-            × (r.generation ≡ served_of pass.new slot)) }
-        ensures own { IfOk result (λ r. r.group ≡ (arc_value self.now.shared).core.group.id) }
-        ensures entered { IfOk result (λ r. EnteredUnder (arc_value self.now.shared).core slot (Ok r)) }
-        ensures refused { IfErr result (IsEntryRefusal (arc_value self.now.shared).board slot) }
-        ensures later { IsLater pass.old pass.new }
+        ensures { IsEntryAt (arc_value self.now.shared) slot pass.old result pass.new }
     {
         let shared: &SharedGroup<Configured<S>, R, C> = &*self.shared;
         shared.enter_as(rt, slot, pass)

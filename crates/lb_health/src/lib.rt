@@ -10,7 +10,7 @@ pub use lb_health_core::health_check::{
 };
 pub use lb_health_core::keys::{ByNumber, KeyRule, Number, Rule};
 pub use lb_health_core::laws as registry_laws;
-pub use lb_health_core::registry::{Registry, RegistryCore};
+pub use lb_health_core::registry::{Registry, RegistryCore, RegistryId};
 pub use lb_health_core::targets::Target;
 pub use lb_health_http::{
     AcceptStatus, BasicPeer, HttpHealthCheck, HttpPeer, MAX_BODY_BYTES, NoObserver, TcpHealthCheck,

@@ -73,7 +73,7 @@ impl ByNumber {
 
 /// The rule by which the backends of a registry share a cell.
 #[derive(Drop)]
-pub enum Rule<N> {
+pub enum Rule<N = ByNumber> {
     /// Those of one address and weight.
     Identity,
     /// Those of one address.

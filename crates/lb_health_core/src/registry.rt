@@ -49,7 +49,7 @@ impl Model for RegistryId {
 ///
 /// Contracts see plain lists: the views, and what is stored of the cells. They are stated by the history of the registry's calls.
 #[derive(Drop)]
-pub struct Registry<R> {
+pub struct Registry<R = Rule<ByNumber>> {
     id: RegistryId,
     rule: R,
     views: Vec<View>,

@@ -68,22 +68,58 @@ fn check_one<R: KeyRule + Drop, C: HealthCheck, L: Log>(
         × IsRegistryAfter R.gives key_of after registry.new) }
     ensures one { registry.new.id ≡ registry.old.id }
 {
-    let verdict = check.check(alloc, &target.backend);
-    let healthy = verdict.is_ok();
+    let answer = ask_check(alloc, check, target);
+    let flipped = registry.observe(target.cell, answer.healthy, answer.threshold);
+    report_flip(rt, alloc, check, target, answer, flipped);
+}
+
+/// What a check answered about a target, as the cell of the target takes it.
+#[derive(Drop)]
+pub struct CheckAnswer {
+    /// The answer itself.
+    pub result: Result<(), CheckError>,
+    /// Whether the answer is that the target is healthy.
+    pub healthy: bool,
+    /// How many such answers in a row flip the health of the target.
+    pub threshold: usize,
+}
+
+/// Returns what the check answers about a target, with the check's threshold for it.
+pub fn ask_check<C: HealthCheck>(alloc: Global, check: &C, target: &Target) -> CheckAnswer
+    ensures answer { C.answers check.now target.now.backend result.result }
+    ensures verdict { record { ok = result.healthy; threshold = result.threshold } ≡ verdict_of (C.threshold check.now) result.result }
+{
+    let result = check.check(alloc, &target.backend);
+    let healthy = result.is_ok();
     let threshold = check.health_threshold(healthy);
-    match registry.observe(target.cell, healthy, threshold) {
-        Ok(true) => tell(rt, alloc, check, &target.backend, verdict),
-        Ok(false) => {}
-        // A cell that is kept no longer.
-        Err(_) => {}
+    CheckAnswer {
+        result,
+        healthy,
+        threshold,
     }
 }
 
-/// Reports to the check that the health of a backend flipped, and then logs it.
+/// Reports to the check, and in a line of the log, where the cell's answer is that the health of the target flipped.
 ///
-/// The line is `.. becomes healthy`, or `.. becomes unhealthy` with the name of the fault. Where the summary is refused for memory, there
-/// is no line.
-pub fn tell<C: HealthCheck, L: Log>(
+/// A cell that is kept no longer answers an `Err`, and is not reported.
+pub fn report_flip<C: HealthCheck, L: Log>(
+    rt: &L,
+    alloc: Global,
+    check: &C,
+    target: &Target,
+    answer: CheckAnswer,
+    flipped: Result<bool, Refusal>,
+) {
+    if let Ok(true) = flipped {
+        tell(rt, alloc, check, &target.backend, answer.result);
+    }
+}
+
+// Reports to the check that the health of a backend flipped, and then logs it.
+//
+// The line is `.. becomes healthy`, or `.. becomes unhealthy` with the name of the fault. Where the summary is refused for memory, there
+// is no line.
+fn tell<C: HealthCheck, L: Log>(
     rt: &L,
     alloc: Global,
     check: &C,

@@ -1,13 +1,13 @@
 -- What the calls of a joined group promise: one record for each call, which the layers above cite.
-use Rattle.std.specs.Prelude.{◌≡◌, ◌⊎◌, ◌↔◌, ◌^◌, ◌≤◌, ℕ, Bool, true, false, IsTrue, List, [], ◌∷◌, ◌++◌, Option, Some, None, if◌then◌else◌}
-use Rattle.std.specs.Prelude.{Result, Ok, Err, IfOk, IsErrOf, OnErr, OnOk}
+use Rattle.std.specs.Prelude.{◌≡◌, ◌⊎◌, ◌↔◌, ◌+◌, ◌^◌, ◌≤◌, ℕ, Bool, true, false, IsTrue, List, [], ◌∷◌, ◌++◌, Option, Some, None}
+use Rattle.std.specs.Prelude.{Result, Ok, Err, IfOk, IsErrOf, OnErr, OnOk, if◌then◌else◌}
 use Rattle.std.specs.Borrow.{Bor}
 use Rattle.std.specs.Fn.{Shared, FnReturns}
 use Rattle.lb_select_base.specs.Backends.{Member}
 use Rattle.lb_select_base.specs.Refusals.{memory_apart}
 use Rattle.lb_select_base.specs.declared.refusal.Refusal.{Refusal}
 use Rattle.lb_select_base.specs.declared.refusal.Refusal.TheVariants.{OutOfMemory, NumbersExhausted, NoSuch}
-use Rattle.lb_rebuild_core.specs.Gate.{GateValue}
+use Rattle.lb_rebuild_core.specs.Gate.{GateId, GateValue}
 use Rattle.lb_rebuild_core.specs.SlotsCalls as slots
 use Rattle.lb_rebuild_core.specs.SlotsHistory as core
 use Rattle.lb_rebuild_core.specs.SlotsHistory.{past_of, served, extra, generation_of}
@@ -24,7 +24,7 @@ use Rattle.lb_health_view.specs.ViewEvents.{ViewEvent}
 use Rattle.lb_health_view.specs.Views.{HoldsOfBoth}
 use Rattle.lb_health_core.specs.Registry.{RegistryValue, IsRegistryAfter, HoldsOf, Grows, KeepsHistory}
 use Rattle.lb_health_core.specs.RegistryEvents as registry
-use Rattle.lb_health_core.specs.RegistryEvents.{Applied, Updated, Marked, cells_given, has_view, views_after}
+use Rattle.lb_health_core.specs.RegistryEvents.{Applied, Registered, Updated, Marked, cells_given, has_view, registered_after, views_after}
 use Rattle.lb_rebuild_core.specs.GroupHistory.{History, Shown, slot_events, in_group, after_settings}
 use Rattle.lb_rebuild_core.specs.GroupStates.{GroupValue, Stands, After, Becomes, SameSite, views_of}
 
@@ -32,6 +32,33 @@ use Rattle.lb_rebuild_core.specs.GroupStates.{GroupValue, Stands, After, Becomes
 abbrev pub IsMakingRefusal : {A : Type 0} → Option Refusal → Result A Refusal → Type 0
 IsMakingRefusal cause (Ok a) = cause ≡ None
 IsMakingRefusal cause (Err e) = (cause ≡ Some e) ⊎ ((memory_apart cause ≡ None) × ((e ≡ OutOfMemory) ⊎ (e ≡ NumbersExhausted)))
+
+-- Something with a view of its own in a registry was to be made, unless there is this cause against it, and the call answered r: what the
+-- registry was before (x) and is after (y). `number` is the number of the view of what was made.
+pub record IsMade {A R : Type 0} (gives : R → Member → Member → Type 0) (cause : Option Refusal) (x : RegistryValue R)
+    (r : Result A Refusal) (number : A → ℕ) (y : RegistryValue R) : Type 0 where
+  -- its view has the next number
+  pub id : IfOk r (λ a. HoldsOf gives x (λ key_of events. number a ≡ registered_after events + 1))
+  -- its view is registered, and the marks that wait are applied
+  pub registry : OnOk r (Grows gives x (λ events. Applied ∷ Registered ∷ events) y)
+  -- where it is refused, the registry is as before
+  pub err : OnErr r (KeepsHistory gives x y)
+  -- where there is no cause beside memory, it is refused for the want of numbers exactly where no number is left for a view
+  pub exhausted : HoldsOf gives x (λ key_of events. memory_apart cause ≡ None
+      → (IsErrOf r NumbersExhausted ↔ (2 ^ 64 ≤ registered_after events + 1)))
+  -- it is refused for the cause; where there is none, for memory or because no number is left
+  pub refused : IsMakingRefusal cause r
+  -- it is the same registry
+  pub one_registry : y.id ≡ x.id
+
+-- A group was just made: it has a slot for each of these configurations, that gate, and its view in that registry.
+pub record IsGroupMade {C : Type 0} (configs : List C) (gate_id : GateId) (registry_id : ℕ) (v : GroupValue C) : Type 0 where
+  -- nothing has happened to it
+  pub stands : Stands (record { id = v.group.id; gate = gate_id; configs = configs }) [] v
+  -- it has that gate
+  pub gate : v.group.gate ≡ gate_id
+  -- its view is in that registry
+  pub site : v.registry ≡ registry_id
 
 -- Why a membership is refused: a cause of the group, and where there is none and the membership is another one, a cause of the
 -- view's, or memory.

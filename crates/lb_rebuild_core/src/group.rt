@@ -1,10 +1,10 @@
 //! A group joined with its view: a membership reaches both or neither, and each slot holds the snapshots that it has in use.
 //! A call tests all that it can refuse for before it changes anything; builds run elsewhere, between `ask` and `publish`.
 ghost use Rattle.std.specs.Prelude.{◌≡◌, ◌≢◌, ◌↔◌, ◌<◌, ◌≤◌, ◌+◌, ◌^◌, ◌∷◌, [], true, false, map, replicate, None, Ok, Err};
-ghost use Rattle.std.specs.Prelude.{length, IfOk, IfErr, IsTrue, OnOk, OnErr, IsErrOf, slice_get};
+ghost use Rattle.std.specs.Prelude.{length, IfOk, IfErr, IsTrue, OnErr, IsErrOf, slice_get};
 ghost use Rattle.std.specs.Arc.{arc_value};
 ghost use Rattle.lb_select_base.specs.Loads.{load_in};
-ghost use Rattle.lb_select_base.specs.Refusals.{least, memory_apart};
+ghost use Rattle.lb_select_base.specs.Refusals.{least};
 ghost use Rattle.lb_rebuild_core.specs.SlotsHistory.{past_of, newest as newest_after};
 ghost use Rattle.lb_rebuild_core.specs.SlotsHistory.{served as served_after, is_cancelled, timing as timing_after};
 ghost use Rattle.lb_rebuild_core.specs.SlotsHistory.{waits as waits_after, readers as readers_after};
@@ -15,13 +15,13 @@ ghost use Rattle.lb_rebuild_core.specs.SlotsCalls.{schedule_refusal, Prepares, F
 ghost use Rattle.lb_health_view.specs.RegistrySide.{IsReady, settings_of};
 ghost use Rattle.lb_health_view.specs.ViewEvents.{Held};
 ghost use Rattle.lb_health_view.specs.Views.{IsViewAfter};
-ghost use Rattle.lb_health_core.specs.Registry.{HoldsOf, Grows, KeepsHistory};
-ghost use Rattle.lb_health_core.specs.RegistryEvents.{Registered, Applied, Updated, registered_after, views_after};
+ghost use Rattle.lb_health_core.specs.Registry.{HoldsOf};
+ghost use Rattle.lb_health_core.specs.RegistryEvents.{Applied, Updated, views_after};
 ghost use Rattle.lb_health_core.specs.RegistryEvents.{has_view, cells_given};
 ghost use Rattle.lb_rebuild_core.specs.GroupCalls.{IsRefusedFor, served_at, Judges, IsJudged, AcceptsBy};
-ghost use Rattle.lb_rebuild_core.specs.GroupCalls.{IsMakingRefusal, IsScheduled, IsCancelled, IsAsked, IsFailed, IsPublished, IsAbandoned};
-ghost use Rattle.lb_rebuild_core.specs.GroupCalls.{IsWorkerLost, IsEntered, IsReadyFor, IsTicketDrawn, IsLeft, IsTaken, IsReported};
-ghost use Rattle.lb_rebuild_core.specs.GroupCalls.{after_select};
+ghost use Rattle.lb_rebuild_core.specs.GroupCalls.{IsGroupMade, IsMade, IsScheduled, IsCancelled, IsAsked, IsFailed, IsPublished};
+ghost use Rattle.lb_rebuild_core.specs.GroupCalls.{IsAbandoned, IsWorkerLost, IsEntered, IsReadyFor, IsTicketDrawn, IsLeft, IsTaken};
+ghost use Rattle.lb_rebuild_core.specs.GroupCalls.{IsReported, after_select};
 ghost use Rattle.lb_rebuild_core.specs.GroupHistory.{History, Set, slot_events, members_now};
 ghost use Rattle.lb_rebuild_core.specs.GroupStates.{Stands, IsFounded, After, Becomes, SameSite, views_of};
 
@@ -83,16 +83,8 @@ impl<S: BackendSelection> GroupCore<S> {
         gate: &GateCore,
         configs: Vec<S::Config>,
     ) -> Result<GroupCore<S>, Refusal>
-        ensures stands { IfOk result (λ g. Stands (record { id = g.group.id; gate = gate.now.id; configs = configs.items }) [] g) }
-        ensures site { IfOk result (λ g. g.registry ≡ registry.old.id) }
-        ensures one_registry { registry.new.id ≡ registry.old.id }
-        ensures gate { IfOk result (λ g. g.group.gate ≡ gate.now.id) }
-        ensures id { IfOk result (λ g. HoldsOf R.gives registry.old (λ key_of events. g.view.id ≡ registered_after events + 1)) }
-        ensures registry { OnOk result (Grows R.gives registry.old (λ events. Applied ∷ Registered ∷ events) registry.new) }
-        ensures err { OnErr result (KeepsHistory R.gives registry.old registry.new) }
-        ensures exhausted { HoldsOf R.gives registry.old (λ key_of events. memory_apart (least (map (S.refusal []) configs.items)) ≡ None
-            → (IsErrOf result Refusal.NumbersExhausted ↔ (2 ^ 64 ≤ registered_after events + 1))) }
-        ensures refused { IsMakingRefusal (least (map (S.refusal []) configs.items)) result }
+        ensures group { IfOk result (IsGroupMade configs.items gate.now.id registry.old.id) }
+        ensures made { IsMade R.gives (least (map (S.refusal []) configs.items)) registry.old result (λ g. g.view.id) registry.new }
     {
         let slots = configs.len();
         let group = match slots::Slots::new(alloc, gate, configs) {

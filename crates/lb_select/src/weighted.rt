@@ -64,7 +64,7 @@ pub struct WeightedWalk {
 
 /// A walk over the candidates of a weighted selector, which it holds. It never ends where the total weight is above 0, and is
 /// over at once where it is 0.
-pub type WeightedIterator<H> = Iter<Weighted<H>>;
+pub type WeightedIterator<H = FnvHasher> = Iter<Weighted<H>>;
 
 /// Where the interval of a place is, and what it took to find it.
 #[derive(Clone, Copy, Debug, PartialEq, Eq)]

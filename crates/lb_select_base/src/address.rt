@@ -74,6 +74,15 @@ impl From<InetAddr> for net::SocketAddr {
     }
 }
 
+impl InetAddr {
+    /// Returns the same address as std has it, without flow information or a scope.
+    pub fn to_std(&self) -> net::SocketAddr
+        ensures { (socket_seen result ≡ Some (inet_seen self.now)) × (socket_flowinfo result ≡ 0) }
+    {
+        net::SocketAddr::from(*self)
+    }
+}
+
 impl fmt::Display for InetAddr {
     ghost output = { λ a. Some (address_text (inet_seen a)) };
 

@@ -37,7 +37,7 @@ pub trait WordSource {
 /// A counter from 0 that wraps at 2^64, and a generator. Its words are exactly those to come: the tickets 0, 1, 2 and so
 /// on, and what the generator answers. The load of an identity is the one that was set for it last, or 0; no draw changes it.
 #[derive(Drop)]
-pub struct CoreWords<R: Drop> {
+pub struct CoreWords<R: Drop = Pcg64> {
     pub tickets: u64,
     pub generator: R,
     pub loads: Loads,

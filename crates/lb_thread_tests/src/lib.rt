@@ -8,6 +8,8 @@ mod balancer;
 #[cfg(test)]
 mod boards;
 #[cfg(test)]
+mod boxed;
+#[cfg(test)]
 mod checks;
 #[cfg(test)]
 mod ends;

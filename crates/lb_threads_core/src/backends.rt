@@ -78,7 +78,7 @@ impl<D, R: KeyRule + Drop, C> Model for Backends<D, R, C> {
 
 /// What backends are made of, but for their view.
 #[derive(Drop)]
-pub struct BackendsParts<D, R: KeyRule + Drop, C> {
+pub struct BackendsParts<D = BoxedDiscovery, R: KeyRule + Drop = Rule<NoRule>, C = BoxedCheck> {
     /// Where the backends come from.
     pub discovery: DiscoverySource<D>,
     /// The registry of health, which others may share.

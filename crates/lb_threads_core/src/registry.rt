@@ -22,7 +22,7 @@ use lb_health_core::health_check::{BoxedCheck, HealthCheck};
 use lb_health_core::keys::{KeyRule, Rule};
 use lb_health_core::registry::Registry;
 use lb_health_core::targets::Target;
-use lb_health_view::passes::tell;
+use lb_health_view::passes::{ask_check, report_flip};
 use lb_select_base::backend::Backend;
 use lb_select_base::refusal::Refusal;
 use log::Log;
@@ -474,14 +474,8 @@ impl<R: KeyRule + Drop + Send, C: HealthCheck + Drop + Send + Sync> HealthRegist
             × ((told : Result Bool Refusal) × UnderRegistry R.gives self.now.start (λ x y.
             IsObserved R.gives x target.now.cell (verdict_of (C.threshold check.now) answer) told y)) }
     {
-        let verdict = check.check(alloc, &target.backend);
-        let healthy = verdict.is_ok();
-        let threshold = check.health_threshold(healthy);
-        match self.observe(rt, target.cell, healthy, threshold) {
-            Ok(true) => tell(rt, alloc, check, &target.backend, verdict),
-            Ok(false) => {}
-            // A cell that is kept no longer.
-            Err(_) => {}
-        }
+        let answer = ask_check(alloc, check, target);
+        let flipped = self.observe(rt, target.cell, answer.healthy, answer.threshold);
+        report_flip(rt, alloc, check, target, answer, flipped);
     }
 }

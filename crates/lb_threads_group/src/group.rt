@@ -349,10 +349,7 @@ impl<S: BackendSelection, R: KeyRule + Drop, C: HealthCheck + Drop> SharedGroup<
         };
         let told = self.update_noting(rt, alloc, discovery, &mut noting);
         if told.is_ok() {
-            *self.timing.lock(rt) = Some(UpdateTimings {
-                discovery_duration: noting.passed(),
-                build_duration: 0,
-            });
+            *self.timing.lock(rt) = Some(noting.timings());
         }
         drop(turn);
         told
@@ -473,7 +470,7 @@ fn update_on<
     K: MomentSource,
 >(
     alloc: Global,
-    port: &mut LockedPort<'g, 'r, 'f, S, R, C, W>,
+    port: &mut LockedPort<'g, 'r, 'f, S, W, R, C>,
     discovery: &D,
     clock: &mut K,
 ) -> Result<u64, Refusal>

@@ -1,6 +1,7 @@
 //! A clock that notes its first and its last reading.
 ghost use Rattle.std.specs.Prelude.{◌≡◌};
 
+use lb_balancer_core::timings::UpdateTimings;
 use lb_select_base::moments::MomentSource;
 
 /// A clock that is borrowed, and what was read of it. Contracts of its user see the borrowed clock.
@@ -12,12 +13,10 @@ pub(crate) struct Noting<'c, K> {
 }
 
 impl<'c, K> Noting<'c, K> {
-    // How long it was from the first reading to the last one; 0 before the first.
-    pub(crate) fn passed(&self) -> u128 {
-        match self.first {
-            Some(first) => self.last.saturating_sub(first),
-            None => 0,
-        }
+    // The timings of an update from the first reading to the last one; 0 before the first.
+    pub(crate) fn timings(&self) -> UpdateTimings {
+        let first = self.first.unwrap_or(self.last);
+        UpdateTimings::without_build(first, self.last)
     }
 }
 

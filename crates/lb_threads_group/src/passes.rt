@@ -3,11 +3,12 @@
 ghost use Rattle.std.specs.Prelude.{◌≡◌, ◌≤◌, ◌<◌, ◌+◌, ◌⊎◌, ⊤, Ok, IfOk, IfErr, IfSome, IfNone, MatchBool};
 ghost use Rattle.std.specs.Arc.{arc_value};
 ghost use Rattle.std.specs.Fn.{FnReturnsAt};
-ghost use Rattle.lb_rebuild.specs.Pass.{IsLoad, IsLater, AreServed, HasSeenBelow, HasMet, newest_of, served_of};
+ghost use Rattle.lb_rebuild.specs.Pass.{IsLoad, IsLater, AreServed, HasSeenBelow, HasMet, newest_of};
 ghost use Rattle.lb_rebuild_core.specs.GroupStates.{IsFounded};
 ghost use Rattle.lb_rebuild_core.specs.GroupCalls.{IsEntered};
-ghost use Rattle.lb_threads_group.specs.Group.{EnteredUnder, LeftUnder, UpdatedUnder};
-ghost use Rattle.lb_threads_group.specs.Shared.{IsSame, IsEntryRefusal, SelectsByAny};
+ghost use Rattle.lb_threads_group.specs.Group.{LeftUnder};
+ghost use Rattle.lb_threads_group.specs.Passes.{IsEntryAt, IsUpdateAt};
+ghost use Rattle.lb_threads_group.specs.Shared.{IsSame, SelectsByAny};
 
 use crate::found::Found;
 use crate::group::SharedGroup;
@@ -110,9 +111,7 @@ impl<S: BackendSelection, R: KeyRule + Drop, C: HealthCheck + Drop> SharedGroup<
         pass: &mut GroupPass,
     ) -> Result<u64, Refusal>
         requires { pass.old.board ≡ self.now.board }
-        ensures updated { UpdatedUnder R.gives K.reads D.finds discovery.now clock.old self.now result clock.new }
-        ensures seen { IfOk result (λ g. g ≤ newest_of pass.new) }
-        ensures later { IsLater pass.old pass.new }
+        ensures { IsUpdateAt R.gives K.reads D.finds discovery.now clock.old self.now pass.old result clock.new pass.new }
     {
         let told = self.update(rt, alloc, discovery, clock);
         if let Ok(generation) = told {
@@ -136,12 +135,7 @@ impl<S: BackendSelection, R: KeyRule + Drop, C: HealthCheck + Drop> SharedGroup<
         pass: &mut GroupPass,
     ) -> Result<Reader<S>, Refusal>
         requires { pass.old.board ≡ self.now.board }
-        ensures reader { IfOk result (λ r. (slot + 1 < self.now.board.words) × (r.slot ≡ slot)
-            × (r.generation ≡ served_of pass.new slot)) }
-        ensures own { IfOk result (λ r. r.group ≡ self.now.core.group.id) }
-        ensures entered { IfOk result (λ r. EnteredUnder self.now.core slot (Ok r)) }
-        ensures refused { IfErr result (IsEntryRefusal self.now.board slot) }
-        ensures later { IsLater pass.old pass.new }
+        ensures { IsEntryAt self.now slot pass.old result pass.new }
     {
         let _board = &self.board;
         for _ in rt.forever() {

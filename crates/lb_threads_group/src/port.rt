@@ -10,8 +10,8 @@ use crate::found::Found;
 use crate::group::SharedGroup;
 use lb_balancer_core::build::RefusedJob;
 use lb_balancer_core::port::{GroupPort, TakesBack};
-use lb_health_core::health_check::HealthCheck;
-use lb_health_core::keys::KeyRule;
+use lb_health_core::health_check::{BoxedCheck, HealthCheck};
+use lb_health_core::keys::{KeyRule, Rule};
 use lb_health_view::view::Settings;
 use lb_rebuild_core::answers::{Ask, Publication};
 use lb_rebuild_core::endings::{end_built, end_job, end_permit, end_reader};
@@ -22,6 +22,7 @@ use lb_select_base::backend::Backend;
 use lb_select_base::refusal::Refusal;
 use lb_select_base::walk::BackendSelection;
 use lb_threads_core::gate::{SelectorRebuildGate, put_gate, take_gate};
+use lb_threads_core::keyed::NoRule;
 use lb_threads_core::registry::{HealthRegistry, put_registry, take_registry};
 use std::alloc::Global;
 use std::collections::BTreeSet;
@@ -29,7 +30,15 @@ use std::sync::Wait;
 
 /// One thread's port of a group that threads share.
 #[derive(Drop)]
-pub struct LockedPort<'g, 'r, 'f, S: BackendSelection, R: KeyRule + Drop, C, W> {
+pub struct LockedPort<
+    'g,
+    'r,
+    'f,
+    S: BackendSelection,
+    W,
+    R: KeyRule + Drop = Rule<NoRule>,
+    C = BoxedCheck,
+> {
     pub group: &'g SharedGroup<S, R, C>,
     pub rt: &'r W,
     // Words of the group, which are loaded before a lock is taken.
@@ -39,9 +48,9 @@ pub struct LockedPort<'g, 'r, 'f, S: BackendSelection, R: KeyRule + Drop, C, W> 
     ghost own: { ForSome found (λ f. f.now.site ≡ group.now) },
 }
 
-impl<'g, 'r, S: BackendSelection, R: KeyRule + Drop, C, W> LockedPort<'g, 'r, 'g, S, R, C, W> {
+impl<'g, 'r, S: BackendSelection, R: KeyRule + Drop, C, W> LockedPort<'g, 'r, 'g, S, W, R, C> {
     /// Returns a port of this group, for the thread that `rt` is of.
-    pub fn new(group: &'g SharedGroup<S, R, C>, rt: &'r W) -> LockedPort<'g, 'r, 'g, S, R, C, W>
+    pub fn new(group: &'g SharedGroup<S, R, C>, rt: &'r W) -> LockedPort<'g, 'r, 'g, S, W, R, C>
         ensures { result.group.now ≡ group.now }
     {
         LockedPort {
@@ -57,7 +66,7 @@ impl<'g, 'r, 'f, S: BackendSelection, R: KeyRule + Drop, C: HealthCheck + Drop, 
     RefusedJob<S>,
     Built<S>,
     Reader<S>,
-> for LockedPort<'g, 'r, 'f, S, R, C, W> {
+> for LockedPort<'g, 'r, 'f, S, W, R, C> {
     ghost owns_refused = { λ p r. OwnsJob p.group.now.core r.task };
 
     ghost owns_built = { λ p b. OwnsJob p.group.now.core b.task };
@@ -135,7 +144,7 @@ impl<'g, 'r, 'f, S: BackendSelection, R: KeyRule + Drop, C: HealthCheck + Drop, 
 
 impl<'g, 'r, 'f, S: BackendSelection, R: KeyRule + Drop, C: HealthCheck + Drop, W: Wait> GroupPort<
     S,
-> for LockedPort<'g, 'r, 'f, S, R, C, W> {
+> for LockedPort<'g, 'r, 'f, S, W, R, C> {
     ghost owns_job = { λ p t. OwnsJob p.group.now.core t };
 
     ghost scheduled = { λ p ms settings now r q. ScheduledUnder R.gives p.group.now ms settings now r × (q.group.now ≡ p.group.now) };

@@ -182,7 +182,7 @@ fn select_on<
     F: Fn(&Backend, bool) -> bool,
 >(
     alloc: Global,
-    port: &mut LockedPort<'g, 'r, 'f, S, R, C, W>,
+    port: &mut LockedPort<'g, 'r, 'f, S, W, R, C>,
     reader: &Reader<S>,
     key: &[u8],
     max_iterations: usize,

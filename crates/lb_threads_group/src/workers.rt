@@ -94,7 +94,7 @@ fn turn_on<
     K: MomentSource,
 >(
     alloc: Global,
-    port: &mut LockedPort<'g, 'r, 'f, S, R, C, W>,
+    port: &mut LockedPort<'g, 'r, 'f, S, W, R, C>,
     slot: usize,
     clock: &mut K,
 ) -> Next {
@@ -115,7 +115,7 @@ fn turn_on<
 // In a cancelled group: what the slot retired is destroyed and reported once it is no longer read, and then the worker ends, unless
 // a build of the slot is still under way.
 fn last_turn<'g, 'r, 'f, S: BackendSelection, R: KeyRule + Drop, C: HealthCheck + Drop, W: Wait>(
-    port: &mut LockedPort<'g, 'r, 'f, S, R, C, W>,
+    port: &mut LockedPort<'g, 'r, 'f, S, W, R, C>,
     slot: usize,
 ) -> Next {
     // In this order: a build that ends after the look leaves its selector to the thread that built it, and none begins any more.

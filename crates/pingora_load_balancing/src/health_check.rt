@@ -2,6 +2,8 @@
 //! An HTTP check is one exchange over any reader and writer (`check_over`); observers and summaries are type parameters.
 //! A registry keeps one cell of health for each key: by identity (`HealthRegistry::new`), by address, or by numbers of the
 //! caller's (`with_equivalence`).
+pub use http::response::Parts;
+pub use http::{Method, Request, StatusCode};
 pub use lb_health::{
     AcceptStatus, BackendSummary, BasicPeer, BoxedCheck, ByNumber, CheckError, HealthCheck,
     HealthObserve, HealthObserveCallback, HttpHealthCheck, HttpPeer, IdentitySummary, KeyRule,

@@ -35,3 +35,5 @@ pub use lb_threads_core::gate::SelectorRebuildGate;
 pub use lb_threads_core::owner::ViewOwner;
 pub use lb_threads_core::registry::HealthRegistry;
 pub use lb_threads_group::group::SharedGroup;
+pub use rand_core::Rng;
+pub use rand_pcg::Pcg64;

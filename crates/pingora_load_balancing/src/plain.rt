@@ -7,7 +7,8 @@ pub use lb_balancer_core::lent::{LentBackends, LentGroupBackends};
 pub use lb_balancer_core::served::{Served, ServedParts};
 pub use lb_balancer_core::served_view::ServedView;
 pub use lb_health::{
-    Health, Registry, RegistryCore, Target, ViewCore, registry_laws, run_health_check, view_laws,
+    Health, Registry, RegistryCore, RegistryId, Target, ViewCore, registry_laws, run_health_check,
+    view_laws,
 };
 pub use lb_rebuild::answers::{Ask, Counts, Publication, Selection, Timing};
 pub use lb_rebuild::board::{Board, WritingPass};

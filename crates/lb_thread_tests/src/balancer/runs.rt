@@ -6,7 +6,7 @@ use log::sink::Locked;
 use log::{Level, Log, Logged};
 use pingora_load_balancing::Backend;
 use pingora_load_balancing::background::{
-    ReadyWatch, ServiceReadyNotifier, ShutdownSignal, ShutdownWatch,
+    ReadyWatch, RuntimeClock, ServiceReadyNotifier, ShutdownSignal, ShutdownWatch,
 };
 use pingora_load_balancing::prelude::RoundRobin;
 use std::process::Abort;
@@ -27,7 +27,8 @@ enum Case {
     Mended,
     // Nobody is left who could send the end, and the run is done.
     Alone,
-    // The run sleeps for an hour, hears that services are not to end, and then that they are.
+    // The run sleeps for an hour of the runtime's clock, hears that services are not to end, and then that they are, and is back within a
+    // second.
     Sleeps,
     // The discovery waits; then the run is done.
     Waits,
@@ -90,7 +91,18 @@ fn rises<R: Wait + Clock + Copy + Drop>(rt: &R, bench: &Bench<RoundRobin, R>, fi
     false
 }
 
-// Once a run is ready, tells it that services are not to end and, a little later, that they are; whether it ran until then.
+// Waits until a second run has ended; whether it ended within a second.
+fn ends_soon<R: Wait + Clock + Copy + Drop>(rt: &R, bench: &Bench<RoundRobin, R>) -> bool {
+    for _ in 0..400 {
+        if bench.checks.open.load(SeqCst) == 2 {
+            return true;
+        }
+        thread::sleep(rt, Duration::from_millis(2));
+    }
+    false
+}
+
+// Once a run is ready, tells it that services are not to end and, a little later, that they are; whether it ran until then, and no longer.
 fn sleeps<R: Wait + Clock + Copy + Drop>(
     rt: &R,
     bench: &Bench<RoundRobin, R>,
@@ -110,7 +122,8 @@ fn sleeps<R: Wait + Clock + Copy + Drop>(
     thread::sleep(rt, Duration::from_millis(150));
     let runs = bench.checks.open.load(SeqCst) == 1;
     send_end(signal);
-    (runs, risen(rt, bench, first), ready.is_ready())
+    let ends = ends_soon(rt, bench);
+    (runs && ends, risen(rt, bench, first), ready.is_ready())
 }
 
 // What the other thread does during a run: it waits until discovery or check is asked, looks, and opens its line; mostly it sends the end.
@@ -141,17 +154,27 @@ fn tells<R: Wait + Clock + Copy + Drop>(
     (came && is_served, before, was_ready)
 }
 
-// Runs by a clock that goes on by five at each reading.
+// Runs by a clock that goes on by five at each reading, or, where it is to sleep, by the runtime's.
 fn runs<R: Wait + Clock + Copy + Send + Sync + Drop, W: Log + Threads + Wait + Sync>(
+    rt: &R,
     logged: &W,
     bench: &Bench<RoundRobin, R>,
+    case: Case,
     watch: &ShutdownWatch,
     notifier: Option<ServiceReadyNotifier>,
 ) {
-    let mut clock = Ticks { next: 0, step: 5 };
-    bench
-        .balancer
-        .run(logged, bench.alloc, &mut clock, watch, notifier);
+    let (balancer, alloc) = (&bench.balancer, bench.alloc);
+    if case == Case::Sleeps {
+        balancer.run(logged, alloc, &mut RuntimeClock::new(rt), watch, notifier);
+        return;
+    }
+    balancer.run(
+        logged,
+        alloc,
+        &mut Ticks { next: 0, step: 5 },
+        watch,
+        notifier,
+    );
 }
 
 // What a run left.
@@ -190,7 +213,7 @@ fn run_beside<
         rt,
         move || tells(rt, bench, case, first, signal, ready),
         move || {
-            runs(logged, bench, watch, notifier);
+            runs(rt, logged, bench, case, watch, notifier);
             bench.checks.open.fetch_add(1, SeqCst);
         },
     );

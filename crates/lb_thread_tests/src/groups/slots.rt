@@ -1,12 +1,14 @@
-//! A group of two slots of two kinds, whose turns the test takes: what each slot selects, by loads, by the flags of its discovery and of
-//! its caller, and by a pass of checks; and that it leaves while its registry is held.
+//! A group of two slots of two kinds, whose turns the test takes, and then workers: what each slot selects, by loads, by the flags of its
+//! discovery and of its caller, and by a pass of checks; and that it leaves while its registry is held.
 use super::turns::turn;
 use crate::balancer::fixtures::{
     DISABLES, ENABLES, InTurn, Line, ROWS, SecondDown, TestedRegistry, in_turn, note, second_down,
 };
 use crate::service_fixtures::Ticks;
+use lb_crowd::crowd::ends;
 use lb_threads_core::registry::{put_registry, take_registry};
 use log::Log;
+use pingora_load_balancing::background::RuntimeClock;
 use pingora_load_balancing::health_check::{NoRule, Rule};
 use pingora_load_balancing::selection::{Chosen, Kind};
 use pingora_load_balancing::{Backend, Backends, HealthRegistry, LoadBalancerGroup};
@@ -14,8 +16,9 @@ use std::alloc::Global;
 use std::process::Abort;
 use std::sync::atomic::Ordering::SeqCst;
 use std::sync::{Arc, Wait};
+use std::thread;
 use std::thread::Threads;
-use std::time::Clock;
+use std::time::{Clock, Duration};
 
 // A group whose first slot goes by loads, and whose second one is a ring.
 type Group<R> = LoadBalancerGroup<Chosen, InTurn<R>, Rule<NoRule>, SecondDown<R>>;
@@ -104,6 +107,37 @@ fn loads<R: Abort + Wait + Clock + Copy + Drop>(rt: &R, bench: &Bench<R>, text: 
     load(rt, bench, "1.0.0.2:80", 0, text);
 }
 
+// Updates, and waits until workers have rebuilt both slots, for ten seconds at most; what each selects then.
+fn rebuilt<R: Abort + Wait + Clock + Copy + Drop>(rt: &R, bench: &Bench<R>, text: &mut String) {
+    let group = &bench.group;
+    bench.line.begin(true, ROWS);
+    let mut clock = RuntimeClock::new(*rt);
+    group
+        .update(rt, bench.alloc, &mut clock)
+        .expect(rt, "refused");
+    for _ in 0..1000 {
+        if group.selectors_ready_for(rt, group.backend_generation(rt)) {
+            break;
+        }
+        thread::sleep(rt, Duration::from_millis(10));
+    }
+    bench.note(rt, text);
+}
+
+// Loads that are set while workers run count at once, and still after the workers rebuilt to a membership without their backends and back.
+fn loads_beside_workers<
+    R: Abort + Log + Threads + Wait + Clock + Copy + Send + Sync + Drop + 'static,
+>(rt: &R, bench: &Bench<R>, text: &mut String) {
+    let clock = RuntimeClock::new(*rt);
+    let missing = bench.group.start_workers(rt, bench.alloc, clock);
+    write!(text, "{missing}").expect(rt, "refused");
+    for (address, number) in [("1.0.0.1:80", 9), ("1.0.0.2:80", 8), ("1.0.0.3:80", 7)] {
+        load(rt, bench, address, number, text);
+    }
+    rebuilt(rt, bench, text);
+    rebuilt(rt, bench, text);
+}
+
 // The second backend is disabled by the discovery and enabled by it, and disabled by a caller; a pass of checks finds it down, and then the
 // caller enables it.
 fn flags<R: Abort + Log + Threads + Wait + Clock + Copy + Send + Sync + Drop>(
@@ -145,7 +179,7 @@ fn leaves<R: Abort + Wait + Clock + Copy + Drop>(
 }
 
 // Each slot goes by its own kind: by loads, which outlive rebuilds to a membership without their backends, or by the ring's points. Both
-// avoid what the discovery, a caller or a check puts out; each backend is checked once for both.
+// avoid what the discovery, a caller or a check puts out; each backend is checked once for both. So do slots that workers rebuild.
 #[test]
 fn slots_of_two_kinds(rt: HostRuntime) {
     let alloc = rt.alloc();
@@ -155,7 +189,10 @@ fn slots_of_two_kinds(rt: HostRuntime) {
     let bench = Bench::new(&rt, alloc, &registry);
     loads(&rt, &bench, &mut text);
     flags(&rt, &bench, &mut text);
+    loads_beside_workers(&rt, &bench, &mut text);
+    let shared = Arc::try_clone(bench.group.shared()).expect(&rt, "refused");
     leaves(&rt, bench, &*registry, &mut text);
+    write!(text, " {}", ends(&rt, &*shared, 1000)).expect(&rt, "refused");
     let wanted = " none none\n \
         1.0.0.2:80/1 1.0.0.2:80/1\n \
         1.0.0.3:80/1 1.0.0.2:80/1\n \
@@ -166,6 +203,11 @@ fn slots_of_two_kinds(rt: HostRuntime) {
         1.0.0.2:80/1 1.0.0.2:80/1\n \
         1.0.0.3:80/1 1.0.0.1:80/1\n\
         3 1.0.0.3:80/1 1.0.0.1:80/1\n\
-        3 0";
+        0 1.0.0.3:80/1 1.0.0.1:80/1\n \
+        1.0.0.3:80/1 1.0.0.1:80/1\n \
+        1.0.0.3:80/1 1.0.0.1:80/1\n \
+        2.0.0.1:80/1 2.0.0.1:80/1\n \
+        1.0.0.3:80/1 1.0.0.2:80/1\n\
+        3 0 true";
     assert_eq!(rt; text.as_str(), wanted);
 }

@@ -5,7 +5,7 @@ use Rattle.lb_balancer.proofs.balancing.Balancing.ask_ready.Goals as goal
 
 pub returns : goal.returns
 returns g c = (
-  c.take-held.result.value,
+  c.take-held.result.value.served,
   (
     known (c.self.invariant.0 ∙ c.self.view_is) c.take-held.ensures.fact,
     (

@@ -22,7 +22,7 @@ returns-in-Err-OutOfMemory-clause-refused g c =
       none,
       record {
         kind = c.cause-cause.ensures.kind;
-        served = c.take-held.result.value;
+        served = c.take-held.result.value.served;
         was_served = known (c.self.invariant.0 ∙ c.self.view_is) c.take-held.ensures.fact;
         cells = c.take_registry-cells.result.value;
         was_registry = of-registry g.R.KeyRule.gives c.registry-registries.ensures c.self.view_is c.take_registry-cells.ensures.registry;

@@ -5,4 +5,4 @@ use Rattle.lb_balancer.proofs.balancing.Balancing.generation_under_lock.Goals as
 
 pub returns : goal.returns
 returns g c =
-    (c.take-held.result.value, known (c.self.invariant.0 ∙ c.self.view_is) c.take-held.ensures.fact, c.generation-generation.ensures)
+    (c.take-held.result.value.served, known (c.self.invariant.0 ∙ c.self.view_is) c.take-held.ensures.fact, c.generation-generation.ensures)

@@ -12,20 +12,20 @@ pub put-requires-2-clause-fact : goal.put-requires-2-clause-fact
 put-requires-2-clause-fact g c =
     let is = c.self.invariant.0 ∙ c.self.view_is in
     known (sym is) (updated c.args.self.now (known is c.take-held.ensures.fact) c.keep.ensures.config
-    c.args.members.keys (settings_of c.args.settings.entries) c.requires c.keep.ensures.took)
+    c.keep.ensures.id c.args.members.keys (settings_of c.args.settings.entries) c.requires c.keep.ensures.took)
 
 pub returns : goal.returns
 returns g c =
     let is = c.self.invariant.0 ∙ c.self.view_is in
     let was = known is c.take-held.ensures.fact in (
-      c.take-held.result.value,
+      c.take-held.result.value.served,
       (
         c.keep.new.self,
         (
           was,
           (
-            updated c.args.self.now was c.keep.ensures.config c.args.members.keys (settings_of c.args.settings.entries) c.requires
-                c.keep.ensures.took,
+            updated c.args.self.now was c.keep.ensures.config c.keep.ensures.id c.args.members.keys
+                (settings_of c.args.settings.entries) c.requires c.keep.ensures.took,
             c.keep.ensures.taken,
           ),
         ),

@@ -5,4 +5,4 @@ use Rattle.lb_balancer.proofs.balancing.Balancing.leave.Goals as goal
 
 pub put_registry-requires-clause-registry : goal.put_registry-requires-clause-registry
 put_registry-requires-clause-registry g c =
-    later c.take_registry-cells.ensures.registry (left_later c.take-held.result.value.view c.founded.ensures c.leave.ensures.after)
+    later c.take_registry-cells.ensures.registry (left_later c.take-held.result.value.served.view c.founded.ensures c.leave.ensures.after)

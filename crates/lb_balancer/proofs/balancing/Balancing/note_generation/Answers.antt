@@ -4,4 +4,4 @@ use Rattle.lb_balancer.proofs.Served.{known}
 use Rattle.lb_balancer.proofs.balancing.Balancing.note_generation.Goals as goal
 
 pub note-requires : goal.note-requires
-note-requires g c = (c.args.serving.now, known (sym (c.self.invariant.2 ∙ c.self.view_is)) c.requires, c.generation.ensures)
+note-requires g c = (c.args.serving.now.served, known (sym (c.self.invariant.2 ∙ c.self.view_is)) c.requires, c.generation.ensures)

@@ -7,7 +7,7 @@ pub returns : goal.returns
 returns g c = (
   c.generation-generation.result,
   (
-    c.take-held.result.value,
+    c.take-held.result.value.served,
     (
       known (c.self.invariant.0 ∙ c.self.view_is) c.take-held.ensures.fact,
       (

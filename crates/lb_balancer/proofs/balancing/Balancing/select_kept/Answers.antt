@@ -1,7 +1,6 @@
 -- Each candidate is judged at its own moment.
 use Rattle.std.proofs.Common.{subst}
 use Rattle.std.specs.Arc.{arc_value}
-use Rattle.std.specs.Fn.{FnReturnsAt}
 use Rattle.lb_select_base.specs.Backends.{same_member}
 use Rattle.lb_rebuild_core.specs.GroupCalls.{AcceptsBy}
 use Rattle.lb_balancer.specs.Selections.{IsReadyIn}

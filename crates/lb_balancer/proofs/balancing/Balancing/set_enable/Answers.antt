@@ -7,10 +7,13 @@ pub put-requires-clause-fact : goal.put-requires-clause-fact
 put-requires-clause-fact g c =
     let is = c.self.invariant.0 ∙ c.self.view_is in
     known (sym is) (flagged c.args.self.now (known is c.take-held.ensures.fact) c.set_enable.ensures.config
-    c.args.backend.now c.args.enabled c.set_enable.ensures.view)
+    c.set_enable.ensures.id c.args.backend.now c.args.enabled c.set_enable.ensures.view)
 
 pub returns : goal.returns
 returns g c =
     let was = known (c.self.invariant.0 ∙ c.self.view_is) c.take-held.ensures.fact in
-    let now = flagged c.args.self.now was c.set_enable.ensures.config c.args.backend.now c.args.enabled c.set_enable.ensures.view in
-    (c.take-held.result.value, (c.set_enable.new.self, (was, (now, c.set_enable.ensures.view))))
+    let now =
+    flagged c.args.self.now was c.set_enable.ensures.config c.set_enable.ensures.id c.args.backend.now c.args.enabled
+    c.set_enable.ensures.view
+    in
+    (c.take-held.result.value.served, (c.set_enable.new.self, (was, (now, c.set_enable.ensures.view))))

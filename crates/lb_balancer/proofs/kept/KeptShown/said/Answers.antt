@@ -1,5 +1,5 @@
 -- The word is of the generation that is shown.
-use Rattle.std.proofs.Common.{◌≡◌, ◌∙◌, subst}
+use Rattle.std.proofs.Common.{◌∙◌, subst}
 use Rattle.std.specs.Prelude.{IfSome}
 use Rattle.std.specs.Arc.{arc_value}
 use Rattle.lb_balancer.specs.History.{JudgedIn}

@@ -76,10 +76,11 @@ begun-requires g c =
     let stands = told.2.stands by_identity [] (c.with_rule-registry.ensures by_identity (λ b k h. h)) in
     let same = c.in_ok-serving.ensures.same ∙ c.into_parts-served.ensures.served in
     let views = view_updated by_identity 1 taken.members [] (one_more []) [] in
-    let view : IsViewAfter views c.in_ok-serving.serving.view =
+    let view : IsViewAfter views c.in_ok-serving.serving.served.view =
     subst (λ v. IsViewAfter views v) (sym (ap (λ (s : Seen). s.view) same)) (first-view taken.members _ stands) in
     record {
       config = ap (λ (s : Seen). s.config) same ∙ c.in_ok-made.ensures.parts.0;
+      id = sym c.view_id.ensures;
       views = views;
       view = view;
       first = let is = c.generation.ensures _ view in omega (arith, is);
@@ -96,7 +97,7 @@ returns-clause-made g c =
     let new = c.with_rule-registry.ensures by_identity (λ b k h. h) in
     let taken = told.2.taken in
     let views = view_updated by_identity 1 taken.members [] (one_more []) [] in
-    let view : IsViewAfter views c.in_ok-serving.serving.view =
+    let view : IsViewAfter views c.in_ok-serving.serving.served.view =
     subst (λ v. IsViewAfter views v) (sym (ap (λ (s : Seen). s.view)
     (c.in_ok-serving.ensures.same ∙ c.into_parts-served.ensures.served)))
     (first-view taken.members _ (told.2.stands by_identity [] new)) in

@@ -2,15 +2,12 @@
 use Rattle.std.proofs.Common.{List, subst, sym}
 use Rattle.lb_select_base.specs.Backends.{Member}
 use Rattle.lb_balancer_core.specs.Balancer.{IsJudged}
-use Rattle.lb_balancer_core.specs.ServedViews.{ServedViewValue}
 use Rattle.lb_balancer.specs.Shown.{AreUnready}
 use Rattle.lb_balancer.proofs.serving.Serving.show.Goals as goal
 
 pub returns-clause-judged : goal.returns-clause-judged
 returns-clause-judged g c =
     let p = c.founded.ensures in
-    let unready = c.in_ok-unready_of.field-0.keys in
-    subst (λ (v : ServedViewValue g.row.S-Config.Denot). AreUnready (IsJudged g.R.KeyRule.gives v.view c.args.registry.now)
-    c.in_ok-get_backend.field-0.value.keys unready) c.self.view_is
-    (subst (λ (ms : List Member). AreUnready (IsJudged g.R.KeyRule.gives c.self.inside.served.view c.args.registry.now) ms unready)
-    (sym (c.in_ok-get_backend.ensures.members p.0 p.1)) (c.in_ok-unready_of.ensures.judged p.0 p.1))
+    let right = IsJudged g.R.KeyRule.gives c.args.self.now.served.view c.args.registry.now in
+    subst (λ (ms : List Member). AreUnready right ms c.in_ok-unready_of.field-0.keys)
+    (sym (c.in_ok-get_backend.ensures.members p.0 p.1)) (c.in_ok-unready_of.ensures.judged p.0 p.1)

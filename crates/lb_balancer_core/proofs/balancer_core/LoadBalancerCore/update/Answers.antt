@@ -1,4 +1,5 @@
 -- The moments that were read, and what is served then.
+use Rattle.std.proofs.Common.{refl, rules}
 use Rattle.lb_health_view.specs.RegistrySide.{settings_of}
 use Rattle.lb_balancer_core.proofs.Readings.{readings}
 use Rattle.lb_balancer_core.proofs.balancer_core.LoadBalancerCore.update.Goals as goal
@@ -20,4 +21,38 @@ returns-clause-updated g c =
       free = λ key_of events r e s. (told.updated key_of events r e s).0;
       stands = λ key_of events r e s. (told.updated key_of events r e s).1.0;
       registry = λ key_of events r e s. (told.updated key_of events r e s).1.1;
+    }
+
+pub returns-clause-stays : goal.returns-clause-stays
+returns-clause-stays g c =
+    let stays = c.in_ok-build.ensures.stays in
+    record {
+      err = tt;
+      registry_err = tt;
+      words = stays.words;
+      id = stays.id;
+      config = stays.config;
+      one_registry = stays.one_registry;
+    }
+
+pub returns-in_err-members-clause-stays : goal.returns-in_err-members-clause-stays
+returns-in_err-members-clause-stays g c = record {
+  err = search rules;
+  registry_err = search rules;
+  words = (refl, refl);
+  id = refl;
+  config = refl;
+  one_registry = refl;
+}
+
+pub returns-in_err-build-clause-stays : goal.returns-in_err-build-clause-stays
+returns-in_err-build-clause-stays g c =
+    let stays = c.in_err-build.ensures.stays in
+    record {
+      err = search rules;
+      registry_err = search rules;
+      words = stays.words;
+      id = stays.id;
+      config = stays.config;
+      one_registry = stays.one_registry;
     }

@@ -22,3 +22,6 @@ returns-in_err-scheduled-clause-refused g c =
       lacking = λ key_of events h made e s none change has few. error-is _ _
           (c.in_err-scheduled.ensures.lacking key_of events h made e s none change has few);
     })))
+
+pub returns-clause-updated : goal.returns-clause-updated
+returns-clause-updated g c = rw c.without_build.ensures (search rules)

@@ -1,13 +1,23 @@
-use Rattle.std.proofs.Common.{◌≡◌, IfErr, subst}
-use Rattle.lb_select_base.specs.Backends.{Member}
-use Rattle.lb_select_base.specs.Loads.{load_in}
-use Rattle.lb_select_base.specs.declared.refusal.Refusal.TheVariants.{OutOfMemory}
+-- The words of what is served are those whose load was set.
+use Rattle.std.proofs.Common.{◌∙◌, refl, subst, unwrap_or}
 use Rattle.lb_balancer_core.specs.Balancer.{ServedValue}
+use Rattle.lb_balancer_core.specs.ServedUpdates.{IsLoadSet}
 use Rattle.lb_balancer_core.proofs.served.Served.set_load.Goals as goal
 
-pub returns-clause-refused : goal.returns-clause-refused
-returns-clause-refused g c =
-    subst
-    (λ (v : ServedValue g.row.S-Config.Denot g.row.G.Denot). IfErr c.set_load.result (λ r. (r ≡ OutOfMemory)
-    × ((m : Member) → load_in c.set_load.new.self.loads m ≡ load_in v.words.loads m)))
-    c.self.view_is c.set_load.ensures.refused
+pub returns : goal.returns
+returns g c =
+    let is = c.set_load.ensures in
+    let now : ServedValue g.row.S-Config.Denot g.row.G.Denot = record {
+      view = c.self.inside.served.view;
+      config = unwrap_or c.self.inside.config g.S.BackendSelection.default_config;
+      members = c.self.inside.served.members;
+      words = c.set_load.new.self;
+    } in
+    subst (λ (v : ServedValue g.row.S-Config.Denot g.row.G.Denot). IsLoadSet v c.args.backend.now c.args.load c.set_load.result now)
+    c.self.view_is
+    (record {
+      set = is.set;
+      refused = is.refused;
+      stands = λ e s. record { view = s.view; members = s.members; tickets = is.tickets ∙ s.tickets };
+      kept = rw (← is.tickets, ← is.generator) refl;
+    })

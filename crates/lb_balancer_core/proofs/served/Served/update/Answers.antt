@@ -151,3 +151,58 @@ returns-in-Err-clause-updated g c key_of events r e s =
     (refused-renewal (g.S.BackendSelection.refusal members (unwrap_or c.self.inside.config g.S.BackendSelection.default_config)) key_of
     c.self.inside.served.view.id members events e refusal same c.in_ok-selector.ensures.made.0
     (least key_of (view_events e) events here.view r))
+
+pub returns-then-is_membership-clause-stays : goal.returns-then-is_membership-clause-stays
+returns-then-is_membership-clause-stays g c = record {
+  err = tt;
+  registry_err = tt;
+  words = (
+    ap (λ (v : ServedValue g.row.S-Config.Denot g.row.G.Denot). v.words.generator) c.self.view_is,
+    ap (λ (v : ServedValue g.row.S-Config.Denot g.row.G.Denot). v.words.loads) c.self.view_is,
+  );
+  id = c.keep.ensures.id ∙ ap (λ (v : ServedValue g.row.S-Config.Denot g.row.G.Denot). v.view.id) c.self.view_is;
+  config = ap (λ (v : ServedValue g.row.S-Config.Denot g.row.G.Denot). v.config) c.self.view_is;
+  one_registry = c.keep.ensures.one_registry;
+}
+
+pub returns-in_err-selector-clause-stays : goal.returns-in_err-selector-clause-stays
+returns-in_err-selector-clause-stays g c = record {
+  err = search rules;
+  registry_err = search rules;
+  words = search rules;
+  id = search rules;
+  config = search rules;
+  one_registry = search rules;
+}
+
+pub returns-in-Ok-clause-stays : goal.returns-in-Ok-clause-stays
+returns-in-Ok-clause-stays g c = record {
+  err = tt;
+  registry_err = tt;
+  words = (
+    ap (λ (v : ServedValue g.row.S-Config.Denot g.row.G.Denot). v.words.generator) c.self.view_is,
+    ap (λ (v : ServedValue g.row.S-Config.Denot g.row.G.Denot). v.words.loads) c.self.view_is,
+  );
+  id = c.renew-unserved.ensures.id ∙ ap (λ (v : ServedValue g.row.S-Config.Denot g.row.G.Denot). v.view.id) c.self.view_is;
+  config = ap (λ (v : ServedValue g.row.S-Config.Denot g.row.G.Denot). v.config) c.self.view_is;
+  one_registry = c.renew-unserved.ensures.one_registry;
+}
+
+pub returns-in-Err-clause-stays : goal.returns-in-Err-clause-stays
+returns-in-Err-clause-stays g c =
+    let is = c.renew-unserved.ensures in
+    let answer = c.renew-unserved.result.1 in
+    let kept = on-err answer _ _ c.in-Err.is is.view_err in
+    let members = on-err answer _ _ c.in-Err.is is.members_err in
+    record {
+      err = λ e s. let here = subst (λ (v : ServedValue g.row.S-Config.Denot g.row.G.Denot). Stands e v) (sym c.self.view_is) s in
+          record { view = kept (view_events e) here.view; members = members ∙ here.members; tickets = here.tickets };
+      registry_err = on-err answer _ _ c.in-Err.is is.registry_err;
+      words = (
+        ap (λ (v : ServedValue g.row.S-Config.Denot g.row.G.Denot). v.words.generator) c.self.view_is,
+        ap (λ (v : ServedValue g.row.S-Config.Denot g.row.G.Denot). v.words.loads) c.self.view_is,
+      );
+      id = is.id ∙ ap (λ (v : ServedValue g.row.S-Config.Denot g.row.G.Denot). v.view.id) c.self.view_is;
+      config = ap (λ (v : ServedValue g.row.S-Config.Denot g.row.G.Denot). v.config) c.self.view_is;
+      one_registry = is.one_registry;
+    }
