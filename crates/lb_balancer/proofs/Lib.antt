@@ -3,5 +3,6 @@ mod Kepts
 mod OfTexts
 mod Parted
 mod Refused
+mod Registered
 mod Renewals
 mod Served

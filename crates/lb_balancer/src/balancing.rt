@@ -12,7 +12,8 @@ ghost use Rattle.lb_rebuild_core.specs.GroupCalls.{AcceptsBy, IsMakingRefusal};
 ghost use Rattle.lb_health_view.specs.RegistrySide.{settings_of};
 ghost use Rattle.lb_balancer_core.specs.ServedViews.{SetsFlag, TakesIn};
 ghost use Rattle.lb_balancer_core.specs.Timings.{Reads};
-ghost use Rattle.lb_threads_core.specs.Registry.{IsRegistryOf};
+ghost use Rattle.lb_threads_core.specs.Registry.{IsRegistryOf, UnderRegistry};
+ghost use Rattle.lb_threads_core.specs.View.{IsRegisteredAs};
 ghost use Rattle.lb_balancer.specs.History.{IsServedBy, IsServedGeneration, IsShownBy, MayGive};
 ghost use Rattle.lb_balancer.specs.History.{UnderServing};
 ghost use Rattle.lb_balancer.specs.Kept.{IsKept};
@@ -156,6 +157,8 @@ impl<
     ) -> Result<Balancing<S, D, R, C>, Refusal>
         ensures made { IfOk result (λ b. (b.discovery ≡ backends.discovery) × (b.config ≡ unwrap_or config S.default_config)
             × (b.first ≡ 0) × (b.registry ≡ backends.registry.start)) }
+        ensures registered { OnOk result (UnderRegistry R.gives backends.registry.start
+            (IsRegisteredAs R.gives (λ b. b.view_id) result)) }
         ensures refused { IsMakingRefusal (S.refusal [] (unwrap_or config S.default_config)) result }
     {
         let BackendsParts {

@@ -1,5 +1,8 @@
--- What is served first is a view to which nothing has happened.
-use Rattle.std.proofs.Common.{[], arith, sym}
+-- What is served first is a view to which nothing has happened, under the number that it was registered under.
+use Rattle.std.proofs.Common.{◌∙◌, [], ap, arith, rules, sym}
+use Rattle.lb_health_view.specs.Snapshots.{ViewValue}
+use Rattle.lb_balancer.specs.History.{BalancerValue}
+use Rattle.lb_balancer.proofs.Registered.{made-of}
 use Rattle.lb_balancer.proofs.Served.{none-yet}
 use Rattle.lb_balancer.proofs.balancing.Balancing.new.Goals as goal
 
@@ -13,3 +16,10 @@ places_over-requires g c =
       first = omega arith;
       discovered = none-yet _;
     })
+
+pub returns-clause-registered : goal.returns-clause-registered
+returns-clause-registered g c =
+    let Balancer = BalancerValue g.row.D.Denot g.row.S-Config.Denot g.row.R.Denot in
+    made-of g.R.KeyRule.gives (search rules) (λ (v : ViewValue). v.id) (λ (b : Balancer). b.view_id)
+    c.registered_view.ensures.registered c.in_ok-view.view c.behind.result c.in_ok-view.was
+    (ap (λ (b : Balancer). b.view_id) c.behind.ensures ∙ c.id-view_id.ensures)
