@@ -130,10 +130,15 @@ against full-short full 2 1 "$unmade" http --timeout 300
 against full-in-all full 2 1 "$unmade" http --timeout 60000 --total-timeout 300
 
 said=$room/said
-(cd "$here/../crates/lbcheck" && rt try --cases "$cases") >"$said" 2>&1 || true
-
 passed=0
 failed=0
+
+# FOLDER: runs its cases by a trial build; what servers noted before counts no more.
+try_cases() {
+    noted=$(wc -l <"$notes")
+    (cd "$here/../crates/lbcheck" && rt try --cases "$1") >"$said" 2>&1 || true
+}
+
 # Whether the server's connection lasted no longer than the case may; one that takes no connection notes none. A trial build takes
 # many times as long over 65536 bytes.
 in_time() {
@@ -141,21 +146,51 @@ in_time() {
     [ -n "${within[$1]-}" ] || return 0
     most=${within[$1]}
     [ "${names[$1]}" != long-field ] && [ "${names[$1]}" != empty-lines ] || most=60
-    took=$(sed -n "s/^${server[$1]} took //p" "$notes" | head -n 1)
+    took=$(tail -n "+$((noted + 1))" "$notes" | sed -n "s/^${server[$1]} took //p" | head -n 1)
     awk -v took="${took:-0}" -v most="$most" 'BEGIN { exit !(took <= most) }'
 }
+
+# NUMBER WHICH: counts the case where it went as it should, and says so, with what try it was.
+is_right() {
+    local name=${names[$1]}
+    grep -q "^case=$name run=ended status=${statuses[$1]} .*output=expected" "$said" && in_time "$1" || return 1
+    echo "$name: as it should be$2"
+    passed=$((passed + 1))
+}
+
+# NUMBER: says how the case went, which isn't as it should.
+tell_wrong() {
+    local name=${names[$1]}
+    echo "$name: not with status ${statuses[$1]} and the output $(cat "$cases/$name.stdout")"
+    grep "^case=$name " "$said" || tail -n 5 "$said"
+    [ -z "${within[$1]-}" ] || grep "^${server[$1]} took" "$notes" || true
+}
+
+try_cases "$cases"
+again=()
 for number in "${!names[@]}"; do
-    name=${names[number]}
-    if grep -q "^case=$name run=ended status=${statuses[number]} .*output=expected" "$said" && in_time "$number"; then
-        echo "$name: as it should be"
-        passed=$((passed + 1))
+    is_right "$number" '' && continue
+    tell_wrong "$number"
+    if [ -n "${within[number]-}" ]; then
+        again+=("$number")
     else
-        echo "$name: not with status ${statuses[number]} and the output $(cat "$cases/$name.stdout")"
-        grep "^case=$name " "$said" || tail -n 5 "$said"
-        [ -z "${within[number]-}" ] || grep "^${server[number]} took" "$notes" || true
         failed=$((failed + 1))
     fi
 done
+
+# A case against a server has limits on time, and a busy machine may have been late: it is tried once more, without the others.
+if [ "${#again[@]}" -gt 0 ]; then
+    mkdir "$room/again"
+    for number in "${again[@]}"; do
+        cp "$cases/${names[number]}" "$cases/${names[number]}".* "$room/again"
+    done
+    try_cases "$room/again"
+    for number in "${again[@]}"; do
+        is_right "$number" ', at the second try' && continue
+        tell_wrong "$number"
+        failed=$((failed + 1))
+    done
+fi
 
 # The proved program, if there is one that is newer than its sources.
 proved() {
@@ -191,6 +226,19 @@ program=${LBCHECK:-$(proved)}
 if [ ! -x "$program" ]; then
     echo "memory: not measured, since no proved lbcheck is there"
 else
+    # NUMBER WHICH: counts the case where the proved program did as it should, and says what was measured, with what try it was.
+    is_measured_right() {
+        local name=${names[$1]} status took memory
+        read -r status took memory <"$room/$name.measured"
+        if [ "$status" -eq "${statuses[$1]}" ] && cmp -s "$room/$name.output" "$cases/$name.stdout" &&
+            [ "$took" -le $((within[$1] * 1000)) ] && [ "$memory" -gt 0 ] && [ "$memory" -lt "$most_memory" ]; then
+            echo "$name, proved: as it should be ($took ms, $memory KiB)$2"
+            passed=$((passed + 1))
+        else
+            echo "$name, proved: status $status, $took ms, $memory KiB, said: $(cat "$room/$name.output")"
+            return 1
+        fi
+    }
     measuring=()
     for number in "${!within[@]}"; do
         measure "$number" "$program" &
@@ -198,16 +246,9 @@ else
     done
     wait "${measuring[@]}"
     for number in "${!within[@]}"; do
-        name=${names[number]}
-        read -r status took memory <"$room/$name.measured"
-        if [ "$status" -eq "${statuses[number]}" ] && cmp -s "$room/$name.output" "$cases/$name.stdout" &&
-            [ "$took" -le $((within[number] * 1000)) ] && [ "$memory" -gt 0 ] && [ "$memory" -lt "$most_memory" ]; then
-            echo "$name, proved: as it should be ($took ms, $memory KiB)"
-            passed=$((passed + 1))
-        else
-            echo "$name, proved: status $status, $took ms, $memory KiB, said: $(cat "$room/$name.output")"
-            failed=$((failed + 1))
-        fi
+        is_measured_right "$number" '' && continue
+        measure "$number" "$program"
+        is_measured_right "$number" ', at the second try' || failed=$((failed + 1))
     done
 fi
 echo "$passed passed, $failed failed"

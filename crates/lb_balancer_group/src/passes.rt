@@ -1,9 +1,9 @@
 //! Readings by passes of a group that its users own, and the updates, entries and selections that go with a pass. A reading loads words of
 //! the group's board: it takes no lock and never waits.
-ghost use Rattle.std.specs.Prelude.{◌≡◌, ◌≤◌, ◌<◌, ◌+◌, IfSome, IfNone, MatchBool};
+ghost use Rattle.std.specs.Prelude.{◌≡◌, ◌≤◌, ◌<◌, ◌+◌, IfSome, IfNone};
 ghost use Rattle.std.specs.Arc.{arc_value};
 ghost use Rattle.std.specs.Fn.{FnReturnsAt};
-ghost use Rattle.lb_rebuild.specs.Pass.{IsLoad, IsLater, AreServed, HasSeenBelow, HasMet};
+ghost use Rattle.lb_rebuild.specs.Pass.{IsLoad, IsReadinessSeen, HaveMet};
 ghost use Rattle.lb_health_view.specs.Discoveries.{FoundBy};
 ghost use Rattle.lb_threads_group.specs.Group.{LeftUnder};
 ghost use Rattle.lb_threads_group.specs.Passes.{IsEntryAt, IsUpdateAt};
@@ -67,9 +67,7 @@ impl<
     /// It never waits, and takes no lock and no memory.
     pub fn selectors_ready_for_as(&self, generation: u64, pass: &mut GroupPass) -> bool
         requires { pass.old.board ≡ (arc_value self.now.shared).board }
-        ensures answer { MatchBool result (AreServed (arc_value self.now.shared).board pass.new generation)
-            (HasSeenBelow (arc_value self.now.shared).board pass.old pass.new generation) }
-        ensures later { IsLater pass.old pass.new }
+        ensures { IsReadinessSeen (arc_value self.now.shared).board generation pass.old result pass.new }
     {
         let shared: &SharedGroup<Configured<S>, R, C> = &*self.shared;
         shared.selectors_ready_for_as(generation, pass)
@@ -79,9 +77,7 @@ impl<
     pub fn meet<W: Wait>(&self, rt: &W, pass: &mut GroupPass, other: &mut GroupPass)
         requires pass { pass.old.board ≡ (arc_value self.now.shared).board }
         requires other { other.old.board ≡ (arc_value self.now.shared).board }
-        ensures pass { HasMet (arc_value self.now.shared).board other.old pass.new }
-        ensures other { HasMet (arc_value self.now.shared).board pass.old other.new }
-        ensures later { IsLater pass.old pass.new × IsLater other.old other.new }
+        ensures { HaveMet (arc_value self.now.shared).board pass.old other.old pass.new other.new }
     {
         let shared: &SharedGroup<Configured<S>, R, C> = &*self.shared;
         shared.meet(rt, pass, other);

@@ -1,5 +1,5 @@
 -- What contracts see of a board and of a pass over it, and what one load does to a pass.
-use Rattle.std.specs.Prelude.{◌≡◌, ◌≢◌, ◌≤◌, ◌<◌, ◌+◌, ℕ, max, List, [], ◌∷◌, slice_index, slice_set}
+use Rattle.std.specs.Prelude.{◌≡◌, ◌≢◌, ◌≤◌, ◌<◌, ◌+◌, ℕ, max, Bool, List, [], ◌∷◌, MatchBool, slice_index, slice_set}
 use Rattle.std.specs.Coded.{Coded}
 use Rattle.atomic_table.specs.Seated.{TableId, table_id_coded}
 
@@ -65,3 +65,19 @@ HasSeenBelow board p q g =
 -- the pass q has seen of each word at least what p had
 abbrev pub HasMet : BoardId → PassValue → PassValue → Type 0
 HasMet board p q = (i : ℕ) → i < board.words → slice_index p.values i ≤ slice_index q.values i
+
+-- A pass over a board was p, answered whether each slot serves the generation g or a later one, and is q.
+pub record IsReadinessSeen (board : BoardId) (g : ℕ) (p : PassValue) (ready : Bool) (q : PassValue) : Type 0 where
+  -- each slot was seen to serve it, or some slot was seen to serve an earlier one
+  pub answer : MatchBool ready (AreServed board q g) (HasSeenBelow board p q g)
+  -- no value has fallen, and no load is forgotten
+  pub later : IsLater p q
+
+-- Two passes over a board met: they were p and o, and are q and t.
+pub record HaveMet (board : BoardId) (p o q t : PassValue) : Type 0 where
+  -- each has seen of every word at least what the other had
+  pub pass : HasMet board o q
+  pub other : HasMet board p t
+  -- no value has fallen in either, and no load is forgotten
+  pub later : IsLater p q
+  pub other_later : IsLater o t

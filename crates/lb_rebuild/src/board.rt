@@ -1,7 +1,7 @@
 //! The board of a group's generations, and passes over it. Readings take no lock and never wait. A pass never falls: what it has once seen
 //! it never sees less of.
-ghost use Rattle.std.specs.Prelude.{◌≡◌, ◌≢◌, ◌≤◌, ◌<◌, ◌+◌, replicate, IfOk, IfErr, IfSome, IfNone, MatchBool, slice_index};
-ghost use Rattle.lb_rebuild.specs.Pass.{IsLoad, IsLater, AreServed, HasSeenBelow, HasMet, raised_words};
+ghost use Rattle.std.specs.Prelude.{◌≡◌, ◌≢◌, ◌≤◌, ◌<◌, ◌+◌, replicate, IfOk, IfErr, IfSome, IfNone, slice_index};
+ghost use Rattle.lb_rebuild.specs.Pass.{IsLoad, IsLater, IsReadinessSeen, HaveMet, raised_words};
 
 use crate::board_rule::{Comes, LoadsWord, Raises, Record, Rises};
 use atomic_table::{Seat, Table};
@@ -150,9 +150,7 @@ impl Board {
     /// It loads each slot's word in turn, up to the first that is below. It never waits, and takes no lock and no memory.
     pub fn selectors_ready_for_as(&self, generation: u64, pass: &mut GroupPass) -> bool
         requires { pass.old.board ≡ self.now }
-        ensures answer { MatchBool result (AreServed self.now pass.new generation)
-            (HasSeenBelow self.now pass.old pass.new generation) }
-        ensures later { IsLater pass.old pass.new }
+        ensures { IsReadinessSeen self.now generation pass.old result pass.new }
     {
         for slot in 0..self.slots {
             if self.load(slot + 1, pass) < generation {
@@ -182,9 +180,7 @@ impl Board {
     /// Joins what two passes have seen: afterwards neither is below what either was, in any word.
     pub fn meet<R: Wait>(&self, rt: &R, pass: &mut GroupPass, other: &mut GroupPass)
         requires { (pass.old.board ≡ self.now) × (other.old.board ≡ self.now) }
-        ensures pass { HasMet self.now other.old pass.new }
-        ensures other { HasMet self.now pass.old other.new }
-        ensures later { IsLater pass.old pass.new × IsLater other.old other.new }
+        ensures { HaveMet self.now pass.old other.old pass.new other.new }
     {
         for word in 0..self.word_count() {
             let first = self.load(word, pass);

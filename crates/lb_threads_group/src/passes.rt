@@ -1,9 +1,9 @@
 //! Readings by passes of a group that threads share, and the updates, entries and selections that go with a pass. Readings load a word and
 //! take no lock. An entry loads its slot's word under the group's lock, and a selection takes none but those of its words.
-ghost use Rattle.std.specs.Prelude.{◌≡◌, ◌≤◌, ◌<◌, ◌+◌, ◌⊎◌, ⊤, Ok, IfOk, IfErr, IfSome, IfNone, MatchBool};
+ghost use Rattle.std.specs.Prelude.{◌≡◌, ◌≤◌, ◌<◌, ◌+◌, ◌⊎◌, ⊤, Ok, IfOk, IfErr, IfSome, IfNone};
 ghost use Rattle.std.specs.Arc.{arc_value};
 ghost use Rattle.std.specs.Fn.{FnReturnsAt};
-ghost use Rattle.lb_rebuild.specs.Pass.{IsLoad, IsLater, AreServed, HasSeenBelow, HasMet, newest_of};
+ghost use Rattle.lb_rebuild.specs.Pass.{IsLoad, IsLater, IsReadinessSeen, HaveMet, newest_of};
 ghost use Rattle.lb_rebuild_core.specs.GroupStates.{IsFounded};
 ghost use Rattle.lb_rebuild_core.specs.GroupCalls.{IsEntered};
 ghost use Rattle.lb_threads_group.specs.Group.{LeftUnder};
@@ -65,9 +65,7 @@ impl<S: BackendSelection, R: KeyRule + Drop, C: HealthCheck + Drop> SharedGroup<
     /// It never waits, and takes no lock and no memory.
     pub fn selectors_ready_for_as(&self, generation: u64, pass: &mut GroupPass) -> bool
         requires { pass.old.board ≡ self.now.board }
-        ensures answer { MatchBool result (AreServed self.now.board pass.new generation)
-            (HasSeenBelow self.now.board pass.old pass.new generation) }
-        ensures later { IsLater pass.old pass.new }
+        ensures { IsReadinessSeen self.now.board generation pass.old result pass.new }
     {
         let _board = &self.board;
         self.board.selectors_ready_for_as(generation, pass)
@@ -76,9 +74,7 @@ impl<S: BackendSelection, R: KeyRule + Drop, C: HealthCheck + Drop> SharedGroup<
     /// Joins what two passes have seen: afterwards neither is below what either was, in any word.
     pub fn meet<W: Wait>(&self, rt: &W, pass: &mut GroupPass, other: &mut GroupPass)
         requires { (pass.old.board ≡ self.now.board) × (other.old.board ≡ self.now.board) }
-        ensures pass { HasMet self.now.board other.old pass.new }
-        ensures other { HasMet self.now.board pass.old other.new }
-        ensures later { IsLater pass.old pass.new × IsLater other.old other.new }
+        ensures { HaveMet self.now.board pass.old other.old pass.new other.new }
     {
         let _board = &self.board;
         self.board.meet(rt, pass, other);

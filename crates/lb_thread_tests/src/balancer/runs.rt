@@ -27,8 +27,7 @@ enum Case {
     Mended,
     // Nobody is left who could send the end, and the run is done.
     Alone,
-    // The run sleeps for an hour of the runtime's clock, hears that services are not to end, and then that they are, and is back within a
-    // second.
+    // The run sleeps for an hour of the runtime's clock, hears that services are not to end, and then that they are, and is back soon.
     Sleeps,
     // The discovery waits; then the run is done.
     Waits,
@@ -91,17 +90,6 @@ fn rises<R: Wait + Clock + Copy + Drop>(rt: &R, bench: &Bench<RoundRobin, R>, fi
     false
 }
 
-// Waits until a second run has ended; whether it ended within a second.
-fn ends_soon<R: Wait + Clock + Copy + Drop>(rt: &R, bench: &Bench<RoundRobin, R>) -> bool {
-    for _ in 0..400 {
-        if bench.checks.open.load(SeqCst) == 2 {
-            return true;
-        }
-        thread::sleep(rt, Duration::from_millis(2));
-    }
-    false
-}
-
 // Once a run is ready, tells it that services are not to end and, a little later, that they are; whether it ran until then, and no longer.
 fn sleeps<R: Wait + Clock + Copy + Drop>(
     rt: &R,
@@ -122,7 +110,7 @@ fn sleeps<R: Wait + Clock + Copy + Drop>(
     thread::sleep(rt, Duration::from_millis(150));
     let runs = bench.checks.open.load(SeqCst) == 1;
     send_end(signal);
-    let ends = ends_soon(rt, bench);
+    let ends = waited(rt, &bench.checks.open, 2);
     (runs && ends, risen(rt, bench, first), ready.is_ready())
 }
 
