@@ -6,6 +6,8 @@ ghost use Rattle.lb_select_base.specs.Refusals.{least};
 ghost use Rattle.lb_rebuild_core.specs.GroupCalls.{IsMakingRefusal};
 ghost use Rattle.lb_health_view.specs.Discoveries.{FoundBy};
 ghost use Rattle.lb_balancer_core.specs.Looks.{Answers};
+ghost use Rattle.lb_threads_core.specs.Registry.{UnderRegistry};
+ghost use Rattle.lb_threads_core.specs.View.{IsRegisteredAs};
 ghost use Rattle.lb_threads_group.specs.Group.{UpdatedUnder};
 ghost use Rattle.lb_threads_group.specs.Kept.{SelectedFrom};
 ghost use Rattle.lb_balancer_core.specs.SlotConfigs.{slot_configs};
@@ -102,6 +104,8 @@ impl<
         ensures made { IfOk result (λ g. IsNewGroup (slot_configs S.default_config configs.items) (arc_value g.shared).core) }
         ensures words { IfOk result (λ g. (arc_value g.shared).board.words ≡ length configs.items + 1) }
         ensures registry { IfOk result (λ g. (arc_value g.shared).registry ≡ backends.registry.start) }
+        ensures registered { OnOk result (UnderRegistry R.gives backends.registry.start (IsRegisteredAs R.gives
+            (λ g. (arc_value g.shared).core.view.id) result)) }
         ensures parts { IfOk result (λ g. (g.discovery ≡ backends.discovery) × (g.owns_checks ≡ backends.owns_checks)
             × (arc_value g.registry ≡ backends.registry) × (g.configs.items ≡ slot_configs S.default_config configs.items)) }
         ensures settings { IfOk result (λ g. (g.health_check_frequency ≡ None) × (g.update_frequency ≡ None)

@@ -1,9 +1,11 @@
 //! Making a group from its parts.
-ghost use Rattle.std.specs.Prelude.{◌≡◌, ◌+◌, ◌⊎◌, [], Some, None, map, length, IfErr, IfOk, IfSome, IfNone};
+ghost use Rattle.std.specs.Prelude.{◌≡◌, ◌+◌, ◌⊎◌, [], Some, None, map, length, IfErr, IfOk, IfSome, IfNone, OnOk};
 ghost use Rattle.std.specs.Arc.{arc_value};
 ghost use Rattle.lb_select_base.specs.Refusals.{least};
 ghost use Rattle.lb_rebuild_core.specs.GroupCalls.{IsMakingRefusal};
 ghost use Rattle.lb_balancer_core.specs.SlotConfigs.{slot_configs};
+ghost use Rattle.lb_threads_core.specs.Registry.{UnderRegistry};
+ghost use Rattle.lb_threads_core.specs.View.{IsRegisteredAs};
 ghost use Rattle.lb_balancer_group.specs.Made.{IsNewGroup};
 
 use lb_balancer_core::configured::{Configured, SlotConfig};
@@ -33,6 +35,7 @@ pub(crate) fn make<S: BackendSelection, R: KeyRule + Drop, C: HealthCheck + Drop
     ensures gate { IfOk result (λ g. g.group.gate ≡ gate.now.id) }
     ensures site { IfOk result (λ g. g.registry ≡ registry.now.start.id) }
     ensures slots { IfOk result (λ g. length g.group.slots ≡ length configs.items) }
+    ensures registered { OnOk result (UnderRegistry R.gives registry.now.start (IsRegisteredAs R.gives (λ g. g.view.id) result)) }
     ensures refused { IsMakingRefusal (least (map (S.refusal []) configs.items)) result }
 {
     let mut cells = take_registry(registry, rt);
@@ -121,6 +124,8 @@ pub(crate) fn opened<S: BackendSelection, R: KeyRule + Drop, C: HealthCheck + Dr
     ensures gate { IfOk result (λ g. (arc_value g.0).core.group.gate ≡ (arc_value gate).id) }
     ensures words { IfOk result (λ g. (arc_value g.0).board.words ≡ length configs.now + 1) }
     ensures registry { IfOk result (λ g. (arc_value g.0).registry ≡ (arc_value registry.now).start) }
+    ensures registered { OnOk result (UnderRegistry R.gives (arc_value registry.now).start (IsRegisteredAs R.gives
+        (λ g. (arc_value g.0).core.view.id) result)) }
     ensures refused { IfErr result (λ e. (e ≡ Refusal.OutOfMemory) ⊎ (e ≡ Refusal.NumbersExhausted)) }
 {
     let copies = copies_of(alloc, configs)?;

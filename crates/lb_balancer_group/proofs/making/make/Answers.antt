@@ -1,8 +1,10 @@
 -- The registry has a view more, or is as before; a new group has a slot for each configuration.
 use Rattle.std.proofs.Common.{◌∙◌}
 use Rattle.lb_health_core.proofs.StateLemmas.{if_ok}
+use Rattle.lb_rebuild_core.specs.GroupStates.{GroupValue}
 use Rattle.lb_threads_core.proofs.Histories.{later, registered_later}
 use Rattle.lb_balancer_group.proofs.FirstSlots.{new_group, slots_of_new}
+use Rattle.lb_balancer_group.proofs.Registrations.{registers}
 use Rattle.lb_balancer_group.proofs.making.make.Goals as goal
 
 pub put_registry-requires-clause-registry : goal.put_registry-requires-clause-registry
@@ -21,3 +23,8 @@ returns-clause-gate g c = if_ok c.new-made.result (λ v is. is.gate ∙ c.take_g
 
 pub returns-clause-site : goal.returns-clause-site
 returns-clause-site g c = if_ok c.new-made.result (λ v is. is.site ∙ c.take_registry-cells.ensures.one) c.new-made.ensures.group
+
+pub returns-clause-registered : goal.returns-clause-registered
+returns-clause-registered g c =
+    registers c.new-made.result (λ (v : GroupValue g.row.S-Config.Denot). v.view.id) c.take_registry-cells.ensures.registry
+    c.new-made.ensures.made
