@@ -2,7 +2,7 @@
 //! taken in the order update, served, registry, shown; the last is held for a copy of a pointer. The lock of the loads is held for one
 //! load, while no other but that of updates is. A selection takes the first four only where its lane doesn't have what is served (`kept`),
 //! and that of the loads only for a load without a word.
-ghost use Rattle.std.specs.Prelude.{◌≡◌, ◌⊎◌, ◌∷◌, [], ℕ, List, IfOk, IfErr, IfSome, OnOk, Ok, Err};
+ghost use Rattle.std.specs.Prelude.{◌≡◌, ◌⊎◌, ◌∷◌, [], ℕ, List, IfOk, IfErr, IfSome, IsErrOf, OnOk, Ok, Err};
 ghost use Rattle.std.specs.Prelude.{All, Some, None, unwrap_or, false, MatchOption};
 ghost use Rattle.std.specs.Arc.{arc_value};
 ghost use Rattle.lb_select_base.specs.Backends.{Member, same_member};
@@ -12,7 +12,8 @@ ghost use Rattle.lb_rebuild_core.specs.GroupCalls.{AcceptsBy, IsMakingRefusal};
 ghost use Rattle.lb_health_view.specs.RegistrySide.{settings_of};
 ghost use Rattle.lb_balancer_core.specs.ServedViews.{SetsFlag, TakesIn};
 ghost use Rattle.lb_balancer_core.specs.Timings.{Reads};
-ghost use Rattle.lb_threads_core.specs.Registry.{IsRegistryOf};
+ghost use Rattle.lb_threads_core.specs.Registry.{IsRegistryOf, SeenIn};
+ghost use Rattle.lb_threads_core.specs.View.{IsFull, IsMadeWithView};
 ghost use Rattle.lb_balancer.specs.History.{IsServedBy, IsServedGeneration, IsShownBy, MayGive};
 ghost use Rattle.lb_balancer.specs.History.{UnderServing};
 ghost use Rattle.lb_balancer.specs.Kept.{IsKept};
@@ -156,6 +157,8 @@ impl<
     ) -> Result<Balancing<S, D, R, C>, Refusal>
         ensures made { IfOk result (λ b. (b.discovery ≡ backends.discovery) × (b.config ≡ unwrap_or config S.default_config)
             × (b.first ≡ 0) × (b.registry ≡ backends.registry.start)) }
+        ensures view { IsMadeWithView R.gives backends.registry.start (S.refusal [] (unwrap_or config S.default_config)) result
+            (λ b. b.view_id) }
         ensures refused { IsMakingRefusal (S.refusal [] (unwrap_or config S.default_config)) result }
     {
         let BackendsParts {
@@ -668,6 +671,8 @@ fn first_built<S: BackendSelection, R: KeyRule + Drop, C: HealthCheck + Drop, W:
     ensures made { IfOk result (λ b. (S.members (arc_value b.selector) ≡ [])
         × (S.built_with (arc_value b.selector) ≡ unwrap_or config.now S.default_config)) }
     ensures refused { IsMakingRefusal (S.refusal [] (unwrap_or config.now S.default_config)) result }
+    ensures exhausted { memory_apart (S.refusal [] (unwrap_or config.now S.default_config)) ≡ None → IsErrOf result Refusal.NumbersExhausted
+        → SeenIn R.gives registry.now.start (IsFull R.gives) }
 {
     match built_of(alloc, &BTreeSet::new(alloc), config, 0) {
         Ok(built) => Ok(built),

@@ -3,6 +3,7 @@ ghost use Rattle.std.specs.Prelude.{◌≡◌, [], IfOk, IfErr, OnOk, OnErr, Non
 ghost use Rattle.std.specs.Arc.{arc_value};
 ghost use Rattle.lb_rebuild_core.specs.GroupCalls.{AcceptsBy, IsMakingRefusal};
 ghost use Rattle.lb_health_core.specs.Registry.{IsGrowthRefusal};
+ghost use Rattle.lb_threads_core.specs.View.{IsMadeWithView};
 ghost use Rattle.lb_balancer.specs.History.{IsServedGeneration, IsShownBy};
 ghost use Rattle.lb_balancer.specs.Selections.{SelectsFrom};
 ghost use Rattle.lb_balancer.specs.Shown.{ShownValue};
@@ -68,6 +69,7 @@ impl<
     ) -> Result<LoadBalancer<S, D, R, C>, Refusal>
         ensures made { IfOk result (λ b. (b.shared.discovery ≡ backends.discovery) × (b.shared.config ≡ S.default_config)
             × (b.shared.first ≡ 0) × (b.shared.registry ≡ backends.registry.start)) }
+        ensures view { IsMadeWithView R.gives backends.registry.start (S.refusal [] S.default_config) result (λ b. b.shared.view_id) }
         ensures parts { IfOk result (λ b. (b.owns_checks ≡ backends.owns_checks) × (b.health_check_frequency ≡ None)
             × (b.update_frequency ≡ None) × (b.parallel_health_check ≡ false)) }
         ensures refused { IsMakingRefusal (S.refusal [] S.default_config) result }
@@ -92,6 +94,8 @@ impl<
         ensures made { IfOk result (λ b. (b.shared.discovery ≡ backends.discovery)
             × (b.shared.config ≡ unwrap_or config S.default_config) × (b.shared.first ≡ 0)
             × (b.shared.registry ≡ backends.registry.start)) }
+        ensures view { IsMadeWithView R.gives backends.registry.start (S.refusal [] (unwrap_or config S.default_config)) result
+            (λ b. b.shared.view_id) }
         ensures parts { IfOk result (λ b. (b.owns_checks ≡ backends.owns_checks) × (b.health_check_frequency ≡ None)
             × (b.update_frequency ≡ None) × (b.parallel_health_check ≡ false)) }
         ensures refused { IsMakingRefusal (S.refusal [] (unwrap_or config S.default_config)) result }

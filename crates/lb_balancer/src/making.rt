@@ -51,7 +51,7 @@ impl<
         requires ends { IsFinite (I.remaining texts) }
         ensures made { IfOk result (λ b. (read : List (Bor (List ℕ))) × Drains I.next_gives texts read
             × IsOfTexts K.reads (rule_gives N.gives) read clock.old clock.new b.shared.discovery b.shared.first b.shared.registry) }
-        ensures parts { IfOk result (λ b. (b.shared.config ≡ S.default_config) × (b.owns_checks ≡ true)
+        ensures parts { IfOk result (λ b. (b.shared.config ≡ S.default_config) × (b.shared.view_id ≡ 1) × (b.owns_checks ≡ true)
             × (b.health_check_frequency ≡ None) × (b.update_frequency ≡ None) × (b.parallel_health_check ≡ false)) }
         ensures refused { IfErr result (λ r. (read : List (Bor (List ℕ))) × Drains I.next_gives texts read
             × OfNew (rule_gives N.gives) (λ registry.

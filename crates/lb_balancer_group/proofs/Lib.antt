@@ -2,3 +2,4 @@ pub mod Accepts
 pub mod Crossings
 pub mod FirstSlots
 pub mod Handles
+mod Registrations

@@ -1,11 +1,13 @@
 //! `LoadBalancerGroup`: a group of slots as its users own it. Updates, selections and readings need a borrow only; workers build
 //! meanwhile. Its drop takes no lock: its workers cancel it, and the registry's next call removes its view.
-ghost use Rattle.std.specs.Prelude.{◌≡◌, ◌+◌, [], None, false, map, length, IfErr, IfOk, OnErr, OnOk};
+ghost use Rattle.std.specs.Prelude.{◌≡◌, ◌+◌, [], None, Err, false, map, length, IfErr, IfOk, OnErr, OnOk};
 ghost use Rattle.std.specs.Arc.{arc_value};
 ghost use Rattle.lb_select_base.specs.Refusals.{least};
 ghost use Rattle.lb_rebuild_core.specs.GroupCalls.{IsMakingRefusal};
 ghost use Rattle.lb_health_view.specs.Discoveries.{FoundBy};
 ghost use Rattle.lb_balancer_core.specs.Looks.{Answers};
+ghost use Rattle.lb_threads_core.specs.Registry.{SeenIn, UnderRegistry};
+ghost use Rattle.lb_threads_core.specs.View.{HasRegistered, IsFull, IsMadeWithView};
 ghost use Rattle.lb_threads_group.specs.Group.{UpdatedUnder};
 ghost use Rattle.lb_threads_group.specs.Kept.{SelectedFrom};
 ghost use Rattle.lb_balancer_core.specs.SlotConfigs.{slot_configs};
@@ -102,6 +104,8 @@ impl<
         ensures made { IfOk result (λ g. IsNewGroup (slot_configs S.default_config configs.items) (arc_value g.shared).core) }
         ensures words { IfOk result (λ g. (arc_value g.shared).board.words ≡ length configs.items + 1) }
         ensures registry { IfOk result (λ g. (arc_value g.shared).registry ≡ backends.registry.start) }
+        ensures view { IsMadeWithView R.gives backends.registry.start (least (map (S.refusal []) (slot_configs S.default_config configs.items)))
+            result (λ g. (arc_value g.shared).core.view.id) }
         ensures parts { IfOk result (λ g. (g.discovery ≡ backends.discovery) × (g.owns_checks ≡ backends.owns_checks)
             × (arc_value g.registry ≡ backends.registry) × (g.configs.items ≡ slot_configs S.default_config configs.items)) }
         ensures settings { IfOk result (λ g. (g.health_check_frequency ≡ None) × (g.update_frequency ≡ None)
@@ -156,6 +160,11 @@ impl<
         ensures gate { OnOk result ((arc_value self.new.shared).core.group.gate ≡ (arc_value gate).id) }
         ensures words { OnOk result ((arc_value self.new.shared).board.words ≡ length self.old.configs.items + 1) }
         ensures registry { OnOk result ((arc_value self.new.shared).registry ≡ (arc_value self.old.registry).start) }
+        ensures registered { OnOk result (UnderRegistry R.gives (arc_value self.old.registry).start
+            (HasRegistered R.gives (arc_value self.new.shared).core.view.id)) }
+        ensures exhausted { result ≡ Err (GateRefusal.NotMade Refusal.NumbersExhausted)
+            → least (map (S.refusal []) self.old.configs.items) ≡ None
+            → SeenIn R.gives (arc_value self.old.registry).start (IsFull R.gives) }
         ensures parts { (self.new.discovery ≡ self.old.discovery) × (self.new.owns_checks ≡ self.old.owns_checks)
             × (self.new.registry ≡ self.old.registry) × (self.new.configs ≡ self.old.configs) }
         ensures settings { (self.new.health_check_frequency ≡ self.old.health_check_frequency)

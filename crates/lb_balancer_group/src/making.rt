@@ -4,6 +4,8 @@ ghost use Rattle.std.specs.Arc.{arc_value};
 ghost use Rattle.lb_select_base.specs.Refusals.{least};
 ghost use Rattle.lb_rebuild_core.specs.GroupCalls.{IsMakingRefusal};
 ghost use Rattle.lb_balancer_core.specs.SlotConfigs.{slot_configs};
+ghost use Rattle.lb_threads_core.specs.Registry.{SeenIn};
+ghost use Rattle.lb_threads_core.specs.View.{IsFull, IsMadeWithView};
 ghost use Rattle.lb_balancer_group.specs.Made.{IsNewGroup};
 
 use lb_balancer_core::configured::{Configured, SlotConfig};
@@ -33,6 +35,7 @@ pub(crate) fn make<S: BackendSelection, R: KeyRule + Drop, C: HealthCheck + Drop
     ensures gate { IfOk result (λ g. g.group.gate ≡ gate.now.id) }
     ensures site { IfOk result (λ g. g.registry ≡ registry.now.start.id) }
     ensures slots { IfOk result (λ g. length g.group.slots ≡ length configs.items) }
+    ensures view { IsMadeWithView R.gives registry.now.start (least (map (S.refusal []) configs.items)) result (λ g. g.view.id) }
     ensures refused { IsMakingRefusal (least (map (S.refusal []) configs.items)) result }
 {
     let mut cells = take_registry(registry, rt);
@@ -77,6 +80,8 @@ pub(crate) fn first_cause<S: BackendSelection, R: KeyRule + Drop, C: HealthCheck
     ensures some { IfSome result (λ e. (least (map (S.refusal []) (slot_configs S.default_config configs.now)) ≡ Some e)
         ⊎ ((least (map (S.refusal []) (slot_configs S.default_config configs.now)) ≡ None) × (e ≡ Refusal.NumbersExhausted))) }
     ensures none { IfNone result (least (map (S.refusal []) (slot_configs S.default_config configs.now)) ≡ None) }
+    ensures exhausted { IfSome result (λ e. least (map (S.refusal []) (slot_configs S.default_config configs.now)) ≡ None
+        → SeenIn R.gives registry.now.start (IsFull R.gives)) }
 {
     match least_cause::<S>(alloc, configs) {
         Some(refusal) => Some(refusal),
@@ -121,6 +126,7 @@ pub(crate) fn opened<S: BackendSelection, R: KeyRule + Drop, C: HealthCheck + Dr
     ensures gate { IfOk result (λ g. (arc_value g.0).core.group.gate ≡ (arc_value gate).id) }
     ensures words { IfOk result (λ g. (arc_value g.0).board.words ≡ length configs.now + 1) }
     ensures registry { IfOk result (λ g. (arc_value g.0).registry ≡ (arc_value registry.now).start) }
+    ensures view { IsMadeWithView R.gives (arc_value registry.now).start None result (λ g. (arc_value g.0).core.view.id) }
     ensures refused { IfErr result (λ e. (e ≡ Refusal.OutOfMemory) ⊎ (e ≡ Refusal.NumbersExhausted)) }
 {
     let copies = copies_of(alloc, configs)?;

@@ -1,9 +1,9 @@
 //! Readings by passes of a group that its users own, and the updates, entries and selections that go with a pass. A reading loads words of
 //! the group's board: it takes no lock and never waits.
-ghost use Rattle.std.specs.Prelude.{◌≡◌, ◌≤◌, ◌<◌, ◌+◌, IfSome, IfNone};
+ghost use Rattle.std.specs.Prelude.{◌≡◌};
 ghost use Rattle.std.specs.Arc.{arc_value};
 ghost use Rattle.std.specs.Fn.{FnReturnsAt};
-ghost use Rattle.lb_rebuild.specs.Pass.{IsLoad, IsReadinessSeen, HaveMet};
+ghost use Rattle.lb_rebuild.specs.Pass.{IsLoad, IsReadinessSeen, IsServedSeen, HaveMet};
 ghost use Rattle.lb_health_view.specs.Discoveries.{FoundBy};
 ghost use Rattle.lb_threads_group.specs.Group.{LeftUnder};
 ghost use Rattle.lb_threads_group.specs.Passes.{IsEntryAt, IsUpdateAt};
@@ -54,9 +54,7 @@ impl<
     /// It never waits, and takes no lock and no memory.
     pub fn selector_generation_as(&self, slot: usize, pass: &mut GroupPass) -> Option<u64>
         requires { pass.old.board ≡ (arc_value self.now.shared).board }
-        ensures some { IfSome result (λ g. (slot + 1 < (arc_value self.now.shared).board.words)
-            × IsLoad pass.old (slot + 1) g pass.new) }
-        ensures none { IfNone result (((arc_value self.now.shared).board.words ≤ slot + 1) × (pass.new ≡ pass.old)) }
+        ensures { IsServedSeen (arc_value self.now.shared).board slot pass.old result pass.new }
     {
         let shared: &SharedGroup<Configured<S>, R, C> = &*self.shared;
         shared.selector_generation_as(slot, pass)

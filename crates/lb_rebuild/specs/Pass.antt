@@ -1,5 +1,5 @@
 -- What contracts see of a board and of a pass over it, and what one load does to a pass.
-use Rattle.std.specs.Prelude.{◌≡◌, ◌≢◌, ◌≤◌, ◌<◌, ◌+◌, ℕ, max, Bool, List, [], ◌∷◌, MatchBool, slice_index, slice_set}
+use Rattle.std.specs.Prelude.{◌≡◌, ◌≢◌, ◌≤◌, ◌<◌, ◌+◌, ℕ, max, Bool, List, [], ◌∷◌, Option, IfNone, IfSome, MatchBool, slice_index, slice_set}
 use Rattle.std.specs.Coded.{Coded}
 use Rattle.atomic_table.specs.Seated.{TableId, table_id_coded}
 
@@ -65,6 +65,13 @@ HasSeenBelow board p q g =
 -- the pass q has seen of each word at least what p had
 abbrev pub HasMet : BoardId → PassValue → PassValue → Type 0
 HasMet board p q = (i : ℕ) → i < board.words → slice_index p.values i ≤ slice_index q.values i
+
+-- A pass over a board was p, answered which generation a slot serves, if there is such a slot, and is q.
+pub record IsServedSeen (board : BoardId) (slot : ℕ) (p : PassValue) (answer : Option ℕ) (q : PassValue) : Type 0 where
+  -- its word was loaded once
+  pub some : IfSome answer (λ g. (slot + 1 < board.words) × IsLoad p (slot + 1) g q)
+  -- no such slot is there, and nothing was loaded
+  pub none : IfNone answer ((board.words ≤ slot + 1) × (q ≡ p))
 
 -- A pass over a board was p, answered whether each slot serves the generation g or a later one, and is q.
 pub record IsReadinessSeen (board : BoardId) (g : ℕ) (p : PassValue) (ready : Bool) (q : PassValue) : Type 0 where

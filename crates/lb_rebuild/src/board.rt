@@ -1,7 +1,7 @@
 //! The board of a group's generations, and passes over it. Readings take no lock and never wait. A pass never falls: what it has once seen
 //! it never sees less of.
-ghost use Rattle.std.specs.Prelude.{◌≡◌, ◌≢◌, ◌≤◌, ◌<◌, ◌+◌, replicate, IfOk, IfErr, IfSome, IfNone, slice_index};
-ghost use Rattle.lb_rebuild.specs.Pass.{IsLoad, IsLater, IsReadinessSeen, HaveMet, raised_words};
+ghost use Rattle.std.specs.Prelude.{◌≡◌, ◌≢◌, ◌≤◌, ◌<◌, ◌+◌, replicate, IfOk, IfErr, slice_index};
+ghost use Rattle.lb_rebuild.specs.Pass.{IsLoad, IsLater, IsReadinessSeen, IsServedSeen, HaveMet, raised_words};
 
 use crate::board_rule::{Comes, LoadsWord, Raises, Record, Rises};
 use atomic_table::{Seat, Table};
@@ -136,8 +136,7 @@ impl Board {
     /// It never waits, and takes no lock and no memory.
     pub fn selector_generation_as(&self, slot: usize, pass: &mut GroupPass) -> Option<u64>
         requires { pass.old.board ≡ self.now }
-        ensures some { IfSome result (λ g. (slot + 1 < self.now.words) × IsLoad pass.old (slot + 1) g pass.new) }
-        ensures none { IfNone result ((self.now.words ≤ slot + 1) × (pass.new ≡ pass.old)) }
+        ensures { IsServedSeen self.now slot pass.old result pass.new }
     {
         if slot >= self.slots {
             return None;

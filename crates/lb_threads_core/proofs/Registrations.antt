@@ -1,13 +1,15 @@
 -- A registered view, and what is made of it or refused after that.
-use Rattle.std.proofs.Common.{◌≡◌, ◌∙◌, inl, inr, ℕ, Result, Ok, Err, IfOk, IfErr, sym, ap, subst}
+use Rattle.std.proofs.Common.{◌≡◌, ◌∙◌, inl, inr, ℕ, Option, Some, None, Result, Ok, Err, IfOk, IfErr, refl, sym, ap, subst}
 use Rattle.std.specs.Prelude.{IsErrOf}
 use Rattle.lb_select_base.specs.Backends.{Member}
+use Rattle.lb_select_base.specs.Refusals.{memory_apart}
 use Rattle.lb_select_base.specs.declared.refusal.Refusal.{Refusal}
 use Rattle.lb_select_base.specs.declared.refusal.Refusal.TheVariants.{NumbersExhausted, OutOfMemory}
 use Rattle.lb_health_core.specs.Registry.{IsGrowthRefusal, RegistryValue}
-use Rattle.lb_threads_core.specs.Registry.{UnderRegistry}
-use Rattle.lb_threads_core.proofs.Histories.{at_site}
-use Rattle.lb_threads_core.specs.View.{IsRegisteredAs}
+use Rattle.lb_rebuild_core.specs.GroupCalls.{IsMade}
+use Rattle.lb_threads_core.specs.Registry.{IsRegistryOf, SeenIn, UnderRegistry}
+use Rattle.lb_threads_core.proofs.Histories.{at_site, registered_later}
+use Rattle.lb_threads_core.specs.View.{HasRegistered, IsFull, IsMadeWithView, IsRegisteredAs}
 
 -- an answer is none of a refusal, nor is a lack of memory one of numbers
 no-err : {A : Type 0} (a : A) → (let r : Result A Refusal = Ok a in IsErrOf r NumbersExhausted) → ⊥
@@ -87,3 +89,118 @@ pub registers : {A : Type 0} (e : Refusal) → (let r : Result A Refusal = Err e
     → e ≡ OutOfMemory
 registers {A = A} e (inl memory, few) = error_of A e OutOfMemory memory
 registers {A = A} e (inr numbers, few) = absurd (few numbers)
+
+-- a want of numbers is no cause here
+pub no-cause : (cause : Option Refusal) → memory_apart cause ≡ None → cause ≡ Some NumbersExhausted → ⊥
+no-cause (Some e) apart is = absurd (cc)
+no-cause None apart is = absurd (cc)
+
+-- memory is no want of numbers
+apart-from : (e : Refusal) → e ≡ OutOfMemory → e ≡ NumbersExhausted → ⊥
+apart-from e memory numbers = absurd (cc)
+
+error-is : (A : Type 0) (e f : Refusal) → (let r : Result A Refusal = Err e in IsErrOf r f) → e ≡ f
+error-is A e f is = cc
+
+module _ {R : Type 0} {gives : R → Member → Member → Type 0} {start : RegistryValue R} {cause : Option Refusal} {B : Type 0}
+    {id_of : B → ℕ} where
+  -- what was made has its view
+  pub made-with : (b : B) → UnderRegistry gives start (HasRegistered gives (id_of b))
+      → (let s : Result B Refusal = Ok b in IsMadeWithView gives start cause s id_of)
+  made-with b told = record { registered = told; exhausted = λ apart none. absurd (no-err b none) }
+
+  -- refused, for the want of numbers only where none is left
+  pub refused-with : (s : Result B Refusal) (e : Refusal) → s ≡ Err e
+      → (memory_apart cause ≡ None → e ≡ NumbersExhausted → SeenIn gives start (IsFull gives)) → IsMadeWithView gives start cause s id_of
+  refused-with s e is full =
+      subst (λ t. IsMadeWithView gives start cause t id_of) (sym is)
+      (record { registered = tt; exhausted = λ apart none. full apart (error-is B e NumbersExhausted none) })
+
+  -- refused for memory
+  pub lost-with : (s : Result B Refusal) (e : Refusal) → s ≡ Err e → e ≡ OutOfMemory → IsMadeWithView gives start cause s id_of
+  lost-with s e is memory = refused-with s e is (λ apart numbers. absurd (apart-from e memory numbers))
+
+module _ {R : Type 0} {gives : R → Member → Member → Type 0} {start site : RegistryValue R} (same_start : start ≡ site) {A : Type 0}
+    {id_of : A → ℕ} {r : Result A Refusal} (told : UnderRegistry gives start (IsRegisteredAs gives id_of r)) where
+  -- the view that a call registered, which has this number
+  pub has-registered : (a : A) → r ≡ Ok a → (n : ℕ) → n ≡ id_of a → UnderRegistry gives site (HasRegistered gives n)
+  has-registered a is n same =
+      let was = at same_start id_of id_of told is told.1.1.1.1 in (
+        told.0,
+        (
+          told.1.0,
+          (
+            at_site same_start told.1.1.0,
+            (
+              told.1.1.1.0,
+              record {
+                grows = was.ok;
+                next = λ key_of events after. same ∙ was.number key_of events after;
+              },
+            ),
+          ),
+        ),
+      )
+
+  -- a call that found no number for one
+  pub had-none : (e : Refusal) → r ≡ Err e → e ≡ NumbersExhausted → SeenIn gives site (IsFull gives)
+  had-none e is numbers = (
+    told.0,
+    (
+      at_site same_start told.1.1.0,
+      λ key_of events after.
+          (told.1.1.1.1.exhausted key_of events after).0 (is ∙ ap Err numbers),
+    ),
+  )
+
+-- what a call of the plain registry made, behind its lock
+pub made-under : {R A : Type 0} {gives : R → Member → Member → Type 0} {start x y : RegistryValue R} {cause : Option Refusal}
+    (r : Result A Refusal) (number : A → ℕ) → IsRegistryOf gives start x → IsMade gives cause x r number y
+    → IsMadeWithView gives start cause r number
+made-under {x = x} {y = y} (Ok a) number of is = record {
+  registered = (x, (y, (of, (registered_later {E = Refusal} (Ok a) is.registry is.err, record { grows = is.registry; next = is.id }))));
+  exhausted = λ apart none. absurd (no-err a none);
+}
+made-under {x = x} (Err e) number of is = record {
+  registered = tt;
+  exhausted = λ apart none. (x, (of, λ key_of events after. (is.exhausted key_of events after apart).0 none));
+}
+
+module _ {R : Type 0} {gives : R → Member → Member → Type 0} {start site : RegistryValue R} (same_start : start ≡ site)
+    {cause other : Option Refusal} (apart_too : memory_apart other ≡ None → memory_apart cause ≡ None) {A B : Type 0} (id_of : A → ℕ)
+    (id : B → ℕ) {r : Result A Refusal} (told : IsMadeWithView gives start cause r id_of) where
+  -- what is made of it has its view, under the number that is the same
+  pub passed-with : (a : A) (b : B) → r ≡ Ok a → id b ≡ id_of a
+      → (let s : Result B Refusal = Ok b in IsMadeWithView gives site other s id)
+  passed-with a b is same =
+      let was = subst (λ t. IsMadeWithView gives start cause t id_of) is told in
+      let known = was.registered in
+      made-with b (
+        known.0,
+        (
+          known.1.0,
+          (
+            at_site same_start known.1.1.0,
+            (
+              known.1.1.1.0,
+              record {
+                grows = known.1.1.1.1.grows;
+                next = λ key_of events after. same ∙ known.1.1.1.1.next key_of events after;
+              },
+            ),
+          ),
+        ),
+      )
+
+  -- refused as it
+  pub refused-as : (s : Result B Refusal) (e : Refusal) → r ≡ Err e → s ≡ Err e → IsMadeWithView gives site other s id
+  refused-as s e is refused =
+      refused-with s e refused (λ apart numbers.
+      let full = told.exhausted (apart_too apart) (is ∙ ap Err numbers) in
+      (full.0, (at_site same_start full.1.0, full.1.1)))
+
+  -- what is made of it has its view, or memory is refused
+  pub behind-with : (a : A) → r ≡ Ok a → (s : Result B Refusal) → IfOk s (λ b. id b ≡ id_of a) → IfErr s (λ e. e ≡ OutOfMemory)
+      → IsMadeWithView gives site other s id
+  behind-with a is (Ok b) same refused = passed-with a b is same
+  behind-with a is (Err e) same refused = lost-with (Err e) e refl refused

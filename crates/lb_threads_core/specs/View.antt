@@ -1,10 +1,11 @@
 -- What is known of a view that threads share: its number and its discovery stay; between two calls of a thread others may have changed the
 -- rest. So a call is one of the plain view at some state of this view, and at some state of its registry.
-use Rattle.std.specs.Prelude.{◌≡◌, ◌↔◌, ◌+◌, ◌≤◌, ◌^◌, ℕ, Bool, true, false, not, List, ◌∷◌, Option, MatchOption, Result}
+use Rattle.std.specs.Prelude.{◌≡◌, ◌↔◌, ◌+◌, ◌≤◌, ◌^◌, ℕ, Bool, true, false, not, List, ◌∷◌, Option, None, MatchOption, Result}
 use Rattle.std.specs.Prelude.{IfOk, OnOk, OnErr, IsErrOf, IsTrue}
 use Rattle.atomic_table.specs.Seated.{TableId}
 use Rattle.lb_select_base.specs.Backends.{Member}
 use Rattle.lb_select_base.specs.Memberships.{same_members}
+use Rattle.lb_select_base.specs.Refusals.{memory_apart}
 use Rattle.lb_select_base.specs.declared.refusal.Refusal.{Refusal}
 use Rattle.lb_select_base.specs.declared.refusal.Refusal.TheVariants.{GenerationsExhausted, NoSuch, NumbersExhausted}
 use Rattle.lb_health_core.specs.Registry.{RegistryValue, IsRegistryAfter, HoldsOf, Grows, KeepsHistory}
@@ -16,7 +17,7 @@ use Rattle.lb_health_view.specs.Snapshots.{ViewValue}
 use Rattle.lb_health_view.specs.ViewEvents.{ViewEvent, generation_after, membership_after}
 use Rattle.lb_health_view.specs.Views.{IsFounded, IsViewAfter, HoldsOfBoth}
 use Rattle.lb_health_view.specs.declared.discovery.DiscoverySource.{DiscoverySource}
-use Rattle.lb_threads_core.specs.Registry.{IsRegistryOf, RegistryHandle, UnderRegistry}
+use Rattle.lb_threads_core.specs.Registry.{IsRegistryOf, RegistryHandle, SeenIn, UnderRegistry}
 
 -- the discovery, the number of the view, its registry, which lock the view is behind, and whether who is made of it runs the checks
 pub record ViewHandle (D R : Type 0) : Type 0 where
@@ -59,6 +60,22 @@ module _ {R : Type 0} (gives : R → Member → Member → Type 0) where
     pub ok : OnOk r (Grows gives x (λ events. Applied ∷ Registered ∷ events) y)
     pub number : IfOk r (λ a. HoldsOf gives x (λ key_of events. id_of a ≡ registered_after events + 1))
     pub exhausted : HoldsOf gives x (λ key_of events. IsErrOf r NumbersExhausted ↔ (2 ^ 64 ≤ registered_after events + 1))
+
+  -- a view was registered under this number, which is the next one, and the marks that wait were applied
+  pub record HasRegistered (id : ℕ) (x y : RegistryValue R) : Type 0 where
+    pub grows : Grows gives x (λ events. Applied ∷ Registered ∷ events) y
+    pub next : HoldsOf gives x (λ key_of events. id ≡ registered_after events + 1)
+
+  -- no number is left for a view
+  abbrev pub IsFull : RegistryValue R → Type 0
+  IsFull x = HoldsOf gives x (λ key_of events. 2 ^ 64 ≤ registered_after events + 1)
+
+  -- Something with a view of its own in this registry was to be made, unless there is this cause against it. What was made has the number
+  -- under which its view was registered. For the want of numbers, where that isn't the cause, it is refused only where none was left.
+  pub record IsMadeWithView {A : Type 0} (start : RegistryValue R) (cause : Option Refusal) (r : Result A Refusal) (id_of : A → ℕ) : Type 0
+    where
+      pub registered : IfOk r (λ a. UnderRegistry gives start (HasRegistered (id_of a)))
+      pub exhausted : memory_apart cause ≡ None → IsErrOf r NumbersExhausted → SeenIn gives start IsFull
 
   -- whether a backend is ready in the newest membership, by some state of the view and some state of its registry
   abbrev pub JudgedUnder : {D : Type 0} → ViewHandle D R → Member → Bool → Type 0

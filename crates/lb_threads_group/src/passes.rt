@@ -1,9 +1,9 @@
 //! Readings by passes of a group that threads share, and the updates, entries and selections that go with a pass. Readings load a word and
 //! take no lock. An entry loads its slot's word under the group's lock, and a selection takes none but those of its words.
-ghost use Rattle.std.specs.Prelude.{◌≡◌, ◌≤◌, ◌<◌, ◌+◌, ◌⊎◌, ⊤, Ok, IfOk, IfErr, IfSome, IfNone};
+ghost use Rattle.std.specs.Prelude.{◌≡◌, ◌≤◌, ◌+◌, ◌⊎◌, ⊤, Ok, IfOk, IfErr, IfSome};
 ghost use Rattle.std.specs.Arc.{arc_value};
 ghost use Rattle.std.specs.Fn.{FnReturnsAt};
-ghost use Rattle.lb_rebuild.specs.Pass.{IsLoad, IsLater, IsReadinessSeen, HaveMet, newest_of};
+ghost use Rattle.lb_rebuild.specs.Pass.{IsLoad, IsLater, IsReadinessSeen, IsServedSeen, HaveMet, newest_of};
 ghost use Rattle.lb_rebuild_core.specs.GroupStates.{IsFounded};
 ghost use Rattle.lb_rebuild_core.specs.GroupCalls.{IsEntered};
 ghost use Rattle.lb_threads_group.specs.Group.{LeftUnder};
@@ -53,8 +53,7 @@ impl<S: BackendSelection, R: KeyRule + Drop, C: HealthCheck + Drop> SharedGroup<
     /// It never waits, and takes no lock and no memory.
     pub fn selector_generation_as(&self, slot: usize, pass: &mut GroupPass) -> Option<u64>
         requires { pass.old.board ≡ self.now.board }
-        ensures some { IfSome result (λ g. (slot + 1 < self.now.board.words) × IsLoad pass.old (slot + 1) g pass.new) }
-        ensures none { IfNone result ((self.now.board.words ≤ slot + 1) × (pass.new ≡ pass.old)) }
+        ensures { IsServedSeen self.now.board slot pass.old result pass.new }
     {
         let _board = &self.board;
         self.board.selector_generation_as(slot, pass)

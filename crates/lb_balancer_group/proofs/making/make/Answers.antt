@@ -1,7 +1,9 @@
 -- The registry has a view more, or is as before; a new group has a slot for each configuration.
 use Rattle.std.proofs.Common.{◌∙◌}
 use Rattle.lb_health_core.proofs.StateLemmas.{if_ok}
+use Rattle.lb_rebuild_core.specs.GroupStates.{GroupValue}
 use Rattle.lb_threads_core.proofs.Histories.{later, registered_later}
+use Rattle.lb_threads_core.proofs.Registrations.{made-under}
 use Rattle.lb_balancer_group.proofs.FirstSlots.{new_group, slots_of_new}
 use Rattle.lb_balancer_group.proofs.making.make.Goals as goal
 
@@ -21,3 +23,8 @@ returns-clause-gate g c = if_ok c.new-made.result (λ v is. is.gate ∙ c.take_g
 
 pub returns-clause-site : goal.returns-clause-site
 returns-clause-site g c = if_ok c.new-made.result (λ v is. is.site ∙ c.take_registry-cells.ensures.one) c.new-made.ensures.group
+
+pub returns-clause-view : goal.returns-clause-view
+returns-clause-view g c =
+    made-under c.new-made.result (λ (v : GroupValue g.row.S-Config.Denot). v.view.id) c.take_registry-cells.ensures.registry
+    c.new-made.ensures.made

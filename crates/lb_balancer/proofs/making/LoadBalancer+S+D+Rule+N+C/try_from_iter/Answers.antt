@@ -108,3 +108,19 @@ returns-clause-made g c =
           (ap (λ (b : Balancer). b.discovery) c.in_ok-shared.ensures.made) (search rules)
           (ap (λ (b : Balancer). b.first) c.in_ok-shared.ensures.made ∙ first),
     )
+
+-- the view is the first one of the new registry
+pub returns-clause-parts : goal.returns-clause-parts
+returns-clause-parts g c =
+    let Seen = ServedViewValue g.row.S-Config.Denot in
+    let Balancer = BalancerValue g.row.D.Denot g.row.S-Config.Denot (Rule g.row.N.Denot) in
+    let made = c.in_ok-shared.ensures.made in
+    let same = c.in_ok-serving.ensures.same ∙ c.into_parts-served.ensures.served in
+    let first = c.in_ok-made.ensures.id by_identity [] (c.with_rule-registry.ensures by_identity (λ b k h. h)) in (
+      ap (λ (b : Balancer). b.config) made,
+      ap (λ (b : Balancer). b.view_id) made ∙ (c.view_id.ensures ∙ (ap (λ (s : Seen). s.view.id) same ∙ first)),
+      refl,
+      refl,
+      refl,
+      refl,
+    )
