@@ -53,9 +53,10 @@ impl<S: BackendSelection, R: KeyRule + Drop, C: HealthCheck + Drop> SharedGroup<
         if let Some(ready) = self.ready_in_lane(rt, backend) {
             return ready;
         }
-        let ready = self.ready_under_locks(rt, backend);
-        self.fill_lane(rt);
-        ready
+        match self.ready_entering(rt, backend) {
+            Some(ready) => ready,
+            None => self.ready_under_locks(rt, backend),
+        }
     }
 
     // Whether a backend is ready in the newest membership, by what the lane has, where that is of the newest one.
@@ -89,6 +90,23 @@ impl<S: BackendSelection, R: KeyRule + Drop, C: HealthCheck + Drop> SharedGroup<
         }
     }
 
+    // Enters the slot, where that serves the newest membership, judges a backend, and puts what was entered into the lane.
+    #[cold]
+    #[inline(never)]
+    fn ready_entering<W: Wait>(&self, rt: &W, backend: &Backend) -> Option<bool>
+        ensures { IfSome result (NewestReadyUnder R.gives self.now backend.now) }
+    {
+        if self.marks.is_closed.load(SeqCst) || !self.serves_newest(SLOT) {
+            return None;
+        }
+        let Ok(entry) = self.enter_lane(rt, SLOT) else {
+            return None;
+        };
+        let ready = self.ready_by(rt, &entry, backend);
+        self.keep(rt, LANE, entry);
+        ready
+    }
+
     // Whether a backend is ready in the newest membership, as group and registry say.
     #[cold]
     #[inline(never)]
@@ -104,16 +122,6 @@ impl<S: BackendSelection, R: KeyRule + Drop, C: HealthCheck + Drop> SharedGroup<
         put_registry(registries, registry);
         self.lock.put(held);
         told
-    }
-
-    // Gives the lane what the slot serves, for the calls that follow, where that is the newest membership.
-    fn fill_lane<W: Wait>(&self, rt: &W) {
-        if self.marks.is_closed.load(SeqCst) || !self.serves_newest(SLOT) {
-            return;
-        }
-        if let Ok(entry) = self.enter_lane(rt, SLOT) {
-            self.keep(rt, LANE, entry);
-        }
     }
 
     /// Enables or disables a backend that a living snapshot lists, by identity; another is left alone.

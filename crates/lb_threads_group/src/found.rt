@@ -332,7 +332,8 @@ impl<S: BackendSelection, R: KeyRule + Drop, C: HealthCheck + Drop> SharedGroup<
         self.finding(rt, found, reader, backend).ready
     }
 
-    // The same, with whether it was found of the newest membership.
+    // Whether a backend is ready for a reader of the words' generation, and whether that was found of the newest membership.
+    #[inline]
     pub(crate) fn finding<W: Wait>(
         &self,
         rt: &W,
@@ -363,7 +364,9 @@ impl<S: BackendSelection, R: KeyRule + Drop, C: HealthCheck + Drop> SharedGroup<
         self.ask_as_of(rt, CHANGES, reader, backend).ready
     }
 
-    // The same, with whether the reader's generation is the newest one, as of this change.
+    // Whether group and registry say that a backend is ready for a reader, and whether it is in the newest generation, as of this change.
+    #[cold]
+    #[inline(never)]
     fn ask_as_of<W: Wait>(
         &self,
         rt: &W,

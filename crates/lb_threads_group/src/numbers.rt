@@ -70,7 +70,7 @@ impl<S: BackendSelection, R: KeyRule + Drop, C> SharedGroup<S, R, C> {
         self.numbers.get(place)
     }
 
-    // Whether a slot was noted to serve the newest membership, after the first one.
+    // Whether a slot was noted to serve the newest membership, of which there is one.
     pub(crate) fn serves_newest(&self, slot: usize) -> bool {
         match (self.noted_served(slot), self.noted_newest()) {
             (Some(served), Some(newest)) => served == newest && newest > 0,
