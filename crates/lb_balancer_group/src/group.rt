@@ -104,8 +104,9 @@ impl<
         ensures made { IfOk result (λ g. IsNewGroup (slot_configs S.default_config configs.items) (arc_value g.shared).core) }
         ensures words { IfOk result (λ g. (arc_value g.shared).board.words ≡ length configs.items + 1) }
         ensures registry { IfOk result (λ g. (arc_value g.shared).registry ≡ backends.registry.start) }
-        ensures view { IsMadeWithView R.gives backends.registry.start (least (map (S.refusal []) (slot_configs S.default_config configs.items)))
-            result (λ g. (arc_value g.shared).core.view.id) }
+        ensures view { IsMadeWithView R.gives backends.registry.start
+            (least (map (S.refusal []) (slot_configs S.default_config configs.items))) result
+            (λ g. (arc_value g.shared).core.view.id) }
         ensures parts { IfOk result (λ g. (g.discovery ≡ backends.discovery) × (g.owns_checks ≡ backends.owns_checks)
             × (arc_value g.registry ≡ backends.registry) × (g.configs.items ≡ slot_configs S.default_config configs.items)) }
         ensures settings { IfOk result (λ g. (g.health_check_frequency ≡ None) × (g.update_frequency ≡ None)

@@ -1,5 +1,6 @@
 -- What contracts see of a board and of a pass over it, and what one load does to a pass.
-use Rattle.std.specs.Prelude.{◌≡◌, ◌≢◌, ◌≤◌, ◌<◌, ◌+◌, ℕ, max, Bool, List, [], ◌∷◌, Option, IfNone, IfSome, MatchBool, slice_index, slice_set}
+use Rattle.std.specs.Prelude.{◌≡◌, ◌≢◌, ◌≤◌, ◌<◌, ◌+◌, ℕ, max, Bool, MatchBool, List, [], ◌∷◌, slice_index, slice_set}
+use Rattle.std.specs.Prelude.{Option, IfNone, IfSome}
 use Rattle.std.specs.Coded.{Coded}
 use Rattle.atomic_table.specs.Seated.{TableId, table_id_coded}
 

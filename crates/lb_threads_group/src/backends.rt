@@ -45,8 +45,8 @@ impl<S: BackendSelection, R: KeyRule + Drop, C: HealthCheck + Drop> SharedGroup<
 
     /// Returns whether a backend is ready in the newest membership, without taking memory.
     ///
-    /// Of a member it mostly takes no lock. It does where something changed since it was asked for, while slot 0 serves an older membership,
-    /// and once the group is cancelled.
+    /// Of a member it mostly takes no lock. It does where something changed since it was asked for, while slot 0 serves an older
+    /// membership, and once the group is cancelled.
     pub fn ready<W: Wait>(&self, rt: &W, backend: &Backend) -> bool
         ensures { NewestReadyUnder R.gives self.now backend.now result }
     {
