@@ -74,7 +74,12 @@ impl<
         ensures { IsReadyIn R.gives self.now (arc_value kept.now.shown) backend.now result }
     {
         if let Some(ready) = self.ask_ready(rt, kept.generation(), backend) {
-            kept.note(backend, Said { ready, changes });
+            let said = Said {
+                ready,
+                is_newest: true,
+                changes,
+            };
+            kept.note(backend, said);
             return ready;
         }
         match said {

@@ -33,9 +33,9 @@ impl<S: BackendSelection, D, R: KeyRule + Drop, C> ReadyRule<Generation<S, D, R,
     ghost use Rattle.lb_balancer.specs.History.{JudgedIn};
     ghost use Rattle.lb_balancer.specs.JudgedSame.{judged-same};
 
-    ghost told = { λ of b ready. JudgedIn R.gives of.balancer of.number b ready };
+    ghost told = { λ of b ready _. JudgedIn R.gives of.balancer of.number b ready };
 
-    ghost by_identity = { λ of b m ready same told. judged-same R.gives of.balancer of.number b m ready same told };
+    ghost by_identity = { λ of b m ready is_newest same told. judged-same R.gives of.balancer of.number b m ready same told };
 }
 
 /// Which members of a generation are ready. Contracts see of which balancer, and of which of its generations.

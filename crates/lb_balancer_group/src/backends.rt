@@ -1,4 +1,5 @@
-//! The backends of a group, as it lends them to threads. Each call takes the group's lock once.
+//! The backends of a group, as it lends them to threads. Each call takes the group's lock once, but for `generation` and `ready`, which
+//! mostly take none.
 ghost use Rattle.std.specs.Prelude.{◌≡◌};
 ghost use Rattle.std.specs.Arc.{arc_value};
 ghost use Rattle.lb_rebuild_core.specs.GroupHistory.{members_now};

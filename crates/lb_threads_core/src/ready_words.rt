@@ -1,6 +1,6 @@
-//! Which backends are ready, as words that threads share: one for each backend, which says whether it is ready and as of which change that
-//! was found. A selection loads the word of its candidate, and asks where something changed since; so a flip or a flag costs each backend
-//! one question, and no request copies a membership.
+//! Which backends are ready, as words that threads share: one for each backend, which says whether it is ready, whether that was found of
+//! the newest membership, and as of which change. A selection loads the word of its candidate, and asks where something changed since; so a
+//! flip or a flag costs each backend one question, and no request copies a membership.
 ghost use Rattle.std.specs.Prelude.{◌≡◌, ◌%◌, Bool, IfOk, IfSome, true};
 ghost use Rattle.lb_select_base.specs.Backends.{Member, same_member};
 ghost use Rattle.lb_threads_core.specs.ReadyWords.{said_as};
@@ -14,21 +14,28 @@ use std::collections::BTreeSet;
 use std::marker::{Model, PhantomData};
 use std::snapshot::Snapshot;
 
-// What a word says.
+// What a word says of a backend that isn't ready, and of one that is.
 const IS_UNREADY: u64 = 2;
 
 const IS_READY: u64 = 3;
+
+// The same of the newest membership.
+const IS_UNREADY_NOW: u64 = 6;
+
+const IS_READY_NOW: u64 = 7;
 
 /// Changes are counted modulo this, so that a word has place for the count.
 pub const CHANGES: u64 = 0x2000_0000_0000_0000;
 
 /// What is known of a backend that a word says to be ready, or not to be.
 pub trait ReadyRule<K> {
-    /// The fact about key, backend, and whether it is ready: who reads a word may use it, and who notes one has to prove it.
-    ghost told: { K → Member → Bool → Type 0 };
+    /// The fact about key, backend, whether it is ready, and whether that was found of the newest membership: who reads a word may use it,
+    /// and who notes one has to prove it.
+    ghost told: { K → Member → Bool → Bool → Type 0 };
 
     // As a backend is judged, so is one of its identity.
-    ghost by_identity: { (key : K) (b m : Member) (ready : Bool) → same_member b m ≡ true → told key m ready → told key b ready };
+    ghost by_identity: { (key : K) (b m : Member) (ready is_newest : Bool) → same_member b m ≡ true → told key m ready is_newest
+        → told key b ready is_newest };
 }
 
 /// The key of words: what they are of, and the backend of each place.
@@ -49,10 +56,11 @@ impl<K, I: ReadyRule<K>> WordRule<Subject<K>> for SaidBy<I> {
     ghost holds = { λ subject i w. SaysAt (I.told subject.of.value) subject.marks.value.items i w };
 }
 
-/// Whether a backend is ready, and as of which change that was found.
+/// Whether a backend is ready, whether that was found of the newest membership, and as of which change.
 #[derive(Clone, Copy)]
 pub struct Said {
     pub ready: bool,
+    pub is_newest: bool,
     pub changes: u64,
 }
 
@@ -99,7 +107,7 @@ impl<K, I: ReadyRule<K>> ReadyWords<K, I> {
     /// Returns what the word of a backend says, by one load, or `None` where none says anything of it.
     #[inline]
     pub fn said(&self, backend: &Backend) -> Option<Said>
-        ensures { IfSome result (λ said. I.told self.now backend.now said.ready) }
+        ensures { IfSome result (λ said. I.told self.now backend.now said.ready said.is_newest) }
     {
         let place = place_of(self.marks.as_slice(), backend)?;
         said_by(self.words.load(place)?)
@@ -107,7 +115,7 @@ impl<K, I: ReadyRule<K>> ReadyWords<K, I> {
 
     /// Notes whether a backend is ready, or does nothing where no word is its.
     pub fn note(&self, backend: &Backend, said: Said)
-        requires { I.told self.now backend.now said.ready }
+        requires { I.told self.now backend.now said.ready said.is_newest }
     {
         if let Some(place) = place_of(self.marks.as_slice(), backend) {
             self.words.store(place, word_of(said));
@@ -123,30 +131,31 @@ impl<K, I: ReadyRule<K>> ReadyWords<K, I> {
 // What a word says.
 #[inline]
 fn said_by(word: u64) -> Option<Said>
-    ensures { IfSome result (λ said. word % 4 ≡ said_as said.ready) }
+    ensures { IfSome result (λ said. word % 8 ≡ said_as said.ready said.is_newest) }
 {
-    let changes = word / 4;
-    match word % 4 {
-        IS_READY => Some(Said {
-            ready: true,
-            changes,
-        }),
-        IS_UNREADY => Some(Said {
-            ready: false,
-            changes,
-        }),
-        _ => None,
-    }
+    let (ready, is_newest) = match word % 8 {
+        IS_READY_NOW => (true, true),
+        IS_UNREADY_NOW => (false, true),
+        IS_READY => (true, false),
+        IS_UNREADY => (false, false),
+        _ => return None,
+    };
+    Some(Said {
+        ready,
+        is_newest,
+        changes: word / 8,
+    })
 }
 
 // The word that says so.
 fn word_of(said: Said) -> u64
-    ensures { result % 4 ≡ said_as said.ready }
+    ensures { result % 8 ≡ said_as said.ready said.is_newest }
 {
-    let turn = said.changes % CHANGES * 4;
-    if said.ready {
-        turn + IS_READY
-    } else {
-        turn + IS_UNREADY
+    let turn = said.changes % CHANGES * 8;
+    match (said.ready, said.is_newest) {
+        (true, true) => turn + IS_READY_NOW,
+        (false, true) => turn + IS_UNREADY_NOW,
+        (true, false) => turn + IS_READY,
+        (false, false) => turn + IS_UNREADY,
     }
 }

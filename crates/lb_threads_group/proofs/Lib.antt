@@ -1,5 +1,6 @@
 pub mod Crossings
 pub mod Entries
+mod Findings
 pub mod NumberLemmas
 pub mod Releases
 pub mod Sites

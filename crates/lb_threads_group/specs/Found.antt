@@ -1,11 +1,11 @@
 -- What is known of which backends are ready for the readers of a generation, each at some state of group and registry. Readiness is the
 -- same for all readers of a generation.
-use Rattle.std.specs.Prelude.{◌↔◌, ℕ, Bool, IsTrue}
+use Rattle.std.specs.Prelude.{◌≡◌, ◌↔◌, ℕ, Bool, true, IsTrue}
 use Rattle.lb_select_base.specs.Backends.{Member}
 use Rattle.lb_health_core.specs.Registry.{HoldsOf}
 use Rattle.lb_health_view.specs.RegistrySide.{IsReady}
 use Rattle.lb_rebuild_core.specs.GroupStates.{After, views_of}
-use Rattle.lb_threads_group.specs.Group.{SeenBeside}
+use Rattle.lb_threads_group.specs.Group.{NewestReadyUnder, SeenBeside}
 use Rattle.lb_threads_group.specs.Shared.{SharedValue}
 
 -- of which group and registry, and of which generation the words are
@@ -19,3 +19,7 @@ module _ {C R : Type 0} (gives : R → Member → Member → Type 0) where
   ReadyAt site g b a =
       SeenBeside gives site (λ v x. HoldsOf gives x (λ key_of events. After v (λ made e. IsTrue a
       ↔ IsReady key_of (views_of made e) events g b)))
+
+  -- the same, and in the newest membership, where it was found of that one
+  abbrev pub FoundAt : SharedValue C R → ℕ → Member → Bool → Bool → Type 0
+  FoundAt site g b a is_newest = ReadyAt site g b a × (is_newest ≡ true → NewestReadyUnder gives site b a)

@@ -2,7 +2,7 @@
 //! group and registry where something changed since.
 ghost use Rattle.std.specs.Prelude.{◌≡◌, IfOk, IfSome, None};
 ghost use Rattle.std.specs.Arc.{arc_value};
-ghost use Rattle.lb_threads_group.specs.Found.{ReadyAt};
+ghost use Rattle.lb_threads_group.specs.Found.{FoundAt, ReadyAt};
 ghost use Rattle.lb_threads_group.specs.Group.{ReadyUnder};
 ghost use Rattle.lb_threads_group.specs.Kept.{IsFoundOf};
 ghost use Rattle.lb_threads_group.specs.Shared.{SharedValue};
@@ -36,16 +36,17 @@ pub struct Subject<S: BackendSelection, R: KeyRule + Drop, C> {
 }
 
 /// Each word says of the backend that has its place whether it is ready for the readers of the generation, at some state of group and
-/// registry.
+/// registry; and whether the generation was the newest one then.
 pub struct OfFound {}
 
 impl<S: BackendSelection, R: KeyRule + Drop, C> ReadyRule<Subject<S, R, C>> for OfFound {
-    ghost use Rattle.lb_threads_group.specs.Found.{ReadyAt};
-    ghost use Rattle.lb_threads_group.specs.SameReadiness.{ready-at};
+    ghost use Rattle.lb_threads_group.specs.Found.{FoundAt};
+    ghost use Rattle.lb_threads_group.specs.SameReadiness.{found-at};
 
-    ghost told = { λ of b ready. ReadyAt R.gives of.site.value of.generation b ready };
+    ghost told = { λ of b ready is_newest. FoundAt R.gives of.site.value of.generation b ready is_newest };
 
-    ghost by_identity = { λ of b m ready same told. ready-at R.gives of.site.value of.generation b m ready same told };
+    ghost by_identity = { λ of b m ready is_newest same told. found-at R.gives of.site.value of.generation b m ready is_newest same
+        told };
 }
 
 // How many tickets were drawn from a selector, wrapping, with so much room that no other word shares its line of memory, nor the one beside
@@ -328,13 +329,29 @@ impl<S: BackendSelection, R: KeyRule + Drop, C: HealthCheck + Drop> SharedGroup<
         requires own { reader.now.group ≡ self.now.core.group.id }
         ensures { ReadyAt R.gives self.now reader.now.generation backend.now result }
     {
+        self.finding(rt, found, reader, backend).ready
+    }
+
+    // Whether a backend is ready for a reader of the words' generation, and whether that was found of the newest membership.
+    #[inline]
+    pub(crate) fn finding<W: Wait>(
+        &self,
+        rt: &W,
+        found: &Found<S, R, C>,
+        reader: &Reader<S>,
+        backend: &Backend,
+    ) -> Said
+        requires found { (found.now.site ≡ self.now) × (found.now.generation ≡ reader.now.generation) }
+        requires own { reader.now.group ≡ self.now.core.group.id }
+        ensures { FoundAt R.gives self.now reader.now.generation backend.now result.ready result.is_newest }
+    {
         let changes = self.changes_so_far();
         match found.ready.said(backend) {
-            Some(said) if said.changes == changes => said.ready,
+            Some(said) if said.changes == changes => said,
             _ => {
-                let ready = self.ask_ready(rt, reader, backend);
-                found.ready.note(backend, Said { ready, changes });
-                ready
+                let said = self.ask_as_of(rt, changes, reader, backend);
+                found.ready.note(backend, said);
+                said
             }
         }
     }
@@ -344,15 +361,37 @@ impl<S: BackendSelection, R: KeyRule + Drop, C: HealthCheck + Drop> SharedGroup<
         requires { reader.now.group ≡ self.now.core.group.id }
         ensures { ReadyUnder R.gives self.now reader.now backend.now result }
     {
+        self.ask_as_of(rt, CHANGES, reader, backend).ready
+    }
+
+    // Whether group and registry say that a backend is ready for a reader, and whether it is in the newest generation, as of this change.
+    #[cold]
+    #[inline(never)]
+    fn ask_as_of<W: Wait>(
+        &self,
+        rt: &W,
+        changes: u64,
+        reader: &Reader<S>,
+        backend: &Backend,
+    ) -> Said
+        requires { reader.now.group ≡ self.now.core.group.id }
+        ensures { FoundAt R.gives self.now reader.now.generation backend.now result.ready result.is_newest }
+    {
         let registries: &HealthRegistry<R, C> = &*self.registry;
         let _gate = &self.gate;
         let held = self.lock.take(rt);
         held.value.founded();
         let cells = take_registry(registries, rt);
-        let told = held.value.core().ready(reader, &cells.value, backend);
+        let group = held.value.core();
+        let ready = group.ready(reader, &cells.value, backend);
+        let is_newest = group.newest() == reader.generation();
         put_registry(registries, cells);
         self.lock.put(held);
-        told
+        Said {
+            ready,
+            is_newest,
+            changes,
+        }
     }
 }
 

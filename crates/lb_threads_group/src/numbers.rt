@@ -54,7 +54,7 @@ fn place_of(slot: usize, number: usize) -> Option<usize>
 
 impl<S: BackendSelection, R: KeyRule + Drop, C> SharedGroup<S, R, C> {
     // The newest generation, if it was noted.
-    fn noted_newest(&self) -> Option<u64>
+    pub(crate) fn noted_newest(&self) -> Option<u64>
         ensures { IfSome result (SawNewest self.now.core) }
     {
         let _board = &self.board;
@@ -68,6 +68,14 @@ impl<S: BackendSelection, R: KeyRule + Drop, C> SharedGroup<S, R, C> {
         let _board = &self.board;
         let place = place_of(slot, 1)?;
         self.numbers.get(place)
+    }
+
+    // Whether a slot was noted to serve the newest membership, of which there is one.
+    pub(crate) fn serves_newest(&self, slot: usize) -> bool {
+        match (self.noted_served(slot), self.noted_newest()) {
+            (Some(served), Some(newest)) => served == newest && newest > 0,
+            _ => false,
+        }
     }
 
     // How many memberships of a slot were coalesced, if it was noted.

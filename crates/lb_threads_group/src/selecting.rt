@@ -138,7 +138,10 @@ impl<S: BackendSelection, R: KeyRule + Drop, C: HealthCheck + Drop> SharedGroup<
     }
 
     // What a lane has.
-    fn entry_in<'s>(&self, seen: &'s Seen<'_, Entry<S, R, C>>) -> Option<&'s Entry<S, R, C>>
+    pub(crate) fn entry_in<'s>(
+        &self,
+        seen: &'s Seen<'_, Entry<S, R, C>>,
+    ) -> Option<&'s Entry<S, R, C>>
         requires { seen.now.hand.tag ≡ self.now }
         ensures { IfSome result (λ e. IsEntry self.now e.now.slot e.now.reader e.now.found) }
     {

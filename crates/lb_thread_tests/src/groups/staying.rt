@@ -1,5 +1,5 @@
 //! Readers that stay in what their slot retired, by calls: they hold up each rebuild on their gate, also in a cancelled group, and what
-//! they are in is destroyed once they have left. A selection in a lane goes on while the registry's lock is held.
+//! they are in is destroyed once they have left. A selection in a lane, and `ready`, go on while the registry's lock is held.
 use crate::groups::turns::{turn, update};
 use lb_crowd::crowd::{Registry, select_one};
 use lb_threads_core::registry::{put_registry, take_registry};
@@ -117,8 +117,8 @@ pub fn cancelled_while_read<
     assert_eq!(rt; told, [true; 9]);
 }
 
-/// A selection takes no lock where nothing changed since the last one: it goes on while this very thread holds the registry. A flip is seen
-/// by the next one.
+/// A selection takes no lock where nothing changed since the last one, nor does a reading of what is ready: they go on while this very
+/// thread holds the registry. A flip is seen by the next ones.
 pub fn selects_while_the_registry_is_held<
     S: BackendSelection,
     R: KeyRule + Drop,
@@ -128,8 +128,11 @@ pub fn selects_while_the_registry_is_held<
     update(rt, alloc, group, 1);
     let published = turn(rt, alloc, group, 0);
     let first = select_one(rt, alloc, group, 0).expect(rt, "refused");
+    let first = first.expect(rt, "none is ready");
+    let asked = group.ready(rt, &first);
     let held = take_registry(registry, rt);
     let second = select_one(rt, alloc, group, 0);
+    let again = group.ready(rt, &first);
     put_registry(registry, held);
     let targets = registry.targets(rt, alloc).expect(rt, "refused");
     let cell = targets.get(0).map(|target| target.cell).unwrap_or(0);
@@ -137,8 +140,8 @@ pub fn selects_while_the_registry_is_held<
     let third = select_one(rt, alloc, group, 0).expect(rt, "refused");
     let told = [
         published == Turn::Published(1),
-        first.is_some(),
-        second == Ok(first),
+        [asked, again, group.ready(rt, &first)] == [true, true, false],
+        second == Ok(Some(first)),
         flipped == Ok(true),
         third.is_none(),
         destroyed(rt, group, 0) == Ok(()),
