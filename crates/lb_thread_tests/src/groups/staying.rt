@@ -1,5 +1,5 @@
 //! Readers that stay in what their slot retired, by calls: they hold up each rebuild on their gate, also in a cancelled group, and what
-//! they are in is destroyed once they have left. A selection in a lane goes on while the registry's lock is held.
+//! they are in is destroyed once they have left. A selection in a lane, and `ready`, go on while the registry's lock is held.
 use crate::groups::turns::{turn, update};
 use lb_crowd::crowd::{Registry, select_one};
 use lb_threads_core::registry::{put_registry, take_registry};
