@@ -43,6 +43,7 @@ pub(crate) const SCRIPTS: &[&str] = &[
     "nothing-there-at-all",
     "numbers",
     "old-cells",
+    "old-stays-ready",
     "orders-of-loads",
     "reader-of-the-old",
     "readers",
