@@ -1,5 +1,6 @@
 //! What threads share, by the types' defaults alone: its discovery and its check are a caller's, each in a box.
 use crate::balancer::fixtures::{is_second, listed, note};
+use crate::groups::turns::turn;
 use crate::service_fixtures::Ticks;
 use log::Log;
 use pingora_load_balancing::background::shutdown_pair;
@@ -7,7 +8,6 @@ use pingora_load_balancing::discovery::{
     BoxedDiscovery, Discovered, DiscoverySource, ServiceDiscovery, Settings,
 };
 use pingora_load_balancing::health_check::{BoxedCheck, CheckError, HealthCheck};
-use pingora_load_balancing::port::{LockedPort, worker_turn};
 use pingora_load_balancing::prelude::{
     Backends, HealthCheckService, HealthRegistry, LoadBalancer, RoundRobin,
 };
@@ -157,9 +157,8 @@ fn look<W: Abort + Wait>(
 fn build<W: Abort + Wait>(rt: &W, alloc: Global, group: &LoadBalancerGroup<Consistent>) {
     let mut clock = Ticks { next: 0, step: 5 };
     group.update(rt, alloc, &mut clock).expect(rt, "refused");
-    let mut port = LockedPort::new(&**group.shared(), rt);
     for _ in 0..2 {
-        worker_turn(alloc, &mut port, 0, &mut clock).expect(rt, "refused");
+        turn(rt, alloc, &**group.shared(), 0);
     }
 }
 

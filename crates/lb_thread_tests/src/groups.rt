@@ -9,7 +9,7 @@ mod runs;
 mod slots;
 mod staying;
 mod tickets;
-mod turns;
+pub(crate) mod turns;
 mod waking;
 
 use lb_crowd::crowd::{Crowd, Registry};

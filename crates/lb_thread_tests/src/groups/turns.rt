@@ -41,7 +41,7 @@ pub(super) fn update<
 }
 
 // Takes a turn for a slot.
-pub(super) fn turn<S: BackendSelection, R: KeyRule + Drop, C: HealthCheck + Drop, W: Wait + Abort>(
+pub(crate) fn turn<S: BackendSelection, R: KeyRule + Drop, C: HealthCheck + Drop, W: Wait + Abort>(
     rt: &W,
     alloc: Global,
     group: &SharedGroup<S, R, C>,
