@@ -1,7 +1,6 @@
 -- What is served first is a view to which nothing has happened, under the number that it was registered under.
-use Rattle.std.proofs.Common.{◌≡◌, ◌∙◌, [], Err, ap, arith, rules, sym}
-use Rattle.lb_threads_core.proofs.Histories.{at_site}
-use Rattle.lb_threads_core.proofs.Registrations.{had-none, has-registered, made-with, refused-with}
+use Rattle.std.proofs.Common.{◌≡◌, ◌∙◌, [], Err, ap, arith, refl, rules, sym}
+use Rattle.lb_threads_core.proofs.Registrations.{had-none, had-one, has-registered, left-for, lost-with, made-with, refused-with, seen-at}
 use Rattle.lb_balancer.specs.History.{BalancerValue}
 use Rattle.lb_balancer.proofs.Served.{none-yet}
 use Rattle.lb_balancer.proofs.balancing.Balancing.new.Goals as goal
@@ -21,16 +20,29 @@ pub returns-in_err-built-clause-view : goal.returns-in_err-built-clause-view
 returns-in_err-built-clause-view g c =
     let e = c.in_err-built.field-0.0 in
     let is : c.from_residual.result ≡ Err e = search rules in
-    refused-with c.from_residual.result e is (λ apart numbers.
-    let full = c.first_built.ensures.exhausted apart (c.in_err-built.was ∙ ap Err numbers) in
-    (full.0, (at_site (search rules) full.1.0, full.1.1)))
+    refused-with c.from_residual.result e is
+    (λ apart numbers. seen-at (search rules) (c.first_built.ensures.exhausted apart (c.in_err-built.was ∙ ap Err numbers)))
+    (λ apart memory. seen-at (search rules) (c.first_built.ensures.left apart (c.in_err-built.was ∙ ap Err memory)))
 
 pub returns-in_err-view-clause-view : goal.returns-in_err-view-clause-view
 returns-in_err-view-clause-view g c =
     let e = c.in_err-view.field-0.0 in
     let is : c.from_residual-in_err-view.result ≡ Err e = search rules in
-    refused-with c.from_residual-in_err-view.result e is (λ apart numbers.
-    had-none (search rules) c.registered_view.ensures.registered e c.in_err-view.was numbers)
+    refused-with c.from_residual-in_err-view.result e is
+    (λ apart numbers. had-none (search rules) c.registered_view.ensures.registered e c.in_err-view.was numbers)
+    (λ apart memory. had-one (search rules) c.registered_view.ensures.registered e c.in_err-view.was memory)
+
+pub returns-in_err-owner-clause-view : goal.returns-in_err-owner-clause-view
+returns-in_err-owner-clause-view g c =
+    lost-with c.from_residual-in_err-owner.result c.in_err-owner.field-0.0 (search rules) (search rules) (λ apart.
+    left-for
+    (has-registered (search rules) c.registered_view.ensures.registered c.in_ok-view.view c.in_ok-view.was c.in_ok-view.view.id refl))
+
+pub returns-in_err-places-clause-view : goal.returns-in_err-places-clause-view
+returns-in_err-places-clause-view g c =
+    lost-with c.from_residual-in_err-places.result c.in_err-places.field-0.0 (search rules) (search rules) (λ apart.
+    left-for
+    (has-registered (search rules) c.registered_view.ensures.registered c.in_ok-view.view c.in_ok-view.was c.in_ok-view.view.id refl))
 
 pub returns-clause-view : goal.returns-clause-view
 returns-clause-view g c =
