@@ -134,7 +134,7 @@ pub(crate) fn opened<S: BackendSelection, R: KeyRule + Drop, C: HealthCheck + Dr
     let copies = match copies_of(alloc, configs) {
         Ok(copies) => copies,
         Err(_) if registry.is_full(rt) => return Err(Refusal::NumbersExhausted),
-        Err(refusal) => return Err(refusal),
+        Err(_) => return Err(Refusal::OutOfMemory),
     };
     let core: GroupCore<Configured<S>> = make(rt, alloc, &**registry, &*gate, copies)?;
     share(rt, alloc, core, registry, gate)

@@ -40,7 +40,7 @@ pub number-left : (n : ℕ) → (2 ^ 64 ≤ n → ⊥) → n < 2 ^ 64
 number-left n few = under-by (nat_lt n (2 ^ 64)) n refl few
 
 no-truth : (b : Bool) → b ≡ false → b ≡ true → ⊥
-no-truth b no yes = absurd (cc)
+no-truth b denied holds = absurd (cc)
 
 -- whether the registry is full, as it was seen
 module _ {R : Type 0} {gives : R → Member → Member → Type 0} {start : RegistryValue R} {is_full : Bool} (seen : SeenIn gives start (λ x.

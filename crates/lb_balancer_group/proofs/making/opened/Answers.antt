@@ -1,7 +1,7 @@
 -- The group has the number that its core was made with; before that the registry was seen to be full, or not to be.
 use Rattle.std.proofs.Common.{None, ap, refl, rules}
 use Rattle.lb_select_base.specs.Refusals.{memory_apart}
-use Rattle.lb_select_base.specs.declared.refusal.Refusal.TheVariants.{NumbersExhausted}
+use Rattle.lb_select_base.specs.declared.refusal.Refusal.TheVariants.{NumbersExhausted, OutOfMemory}
 use Rattle.lb_health_core.proofs.StateLemmas.{if_ok}
 use Rattle.lb_rebuild_core.specs.GroupStates.{GroupValue}
 use Rattle.lb_threads_core.proofs.Registrations.{apart-from, behind-with, lost-with, refused-as, refused-with, seen-at}
@@ -16,7 +16,7 @@ returns-in-Err-clause-view g c =
 
 pub returns-in-Err-2-clause-view : goal.returns-in-Err-2-clause-view
 returns-in-Err-2-clause-view g c =
-    lost-with _ c.in-Err-2.refusal refl (search rules) (λ apart.
+    lost-with _ OutOfMemory refl refl (λ apart.
     seen-at (search rules) (seen-left c.is_full.ensures c.if-is_full.false))
 
 pub returns-in_err-core-clause-view : goal.returns-in_err-core-clause-view
