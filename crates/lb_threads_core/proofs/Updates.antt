@@ -1,21 +1,23 @@
 -- What a view took in is what its update did, and a refusal has its cause.
-use Rattle.std.proofs.Common.{◌≡◌, inl, inr, ◌∙◌, Bool, true, false, List, Some, None, Result, Ok, Err, refl, ap, subst}
-use Rattle.std.specs.Prelude.{OnOk, OnErr, IsErrOf}
+use Rattle.std.proofs.Common.{◌≡◌, ◌≢◌, ◌≤◌, ◌+◌, ◌^◌, inl, inr, ◌∙◌, Bool, true, false, List, ◌∷◌, Some, None, Result, Ok, Err, refl, ap, subst}
+use Rattle.std.specs.Prelude.{OnOk, OnErr, IsErrOf, IsOk}
 use Rattle.std.proofs.lemmas.Result.{IfOk-at_ok}
 use Rattle.lb_select_base.specs.Backends.{Member}
 use Rattle.lb_select_base.specs.declared.refusal.Refusal.{Refusal}
-use Rattle.lb_select_base.specs.declared.refusal.Refusal.TheVariants.{Discovery}
+use Rattle.lb_select_base.specs.declared.refusal.Refusal.TheVariants.{Discovery, GenerationsExhausted, NoSuch, NumbersExhausted, OutOfMemory}
 use Rattle.lb_health_core.specs.Registry.{RegistryValue, IsRegistryAfter, KeepsHistory}
-use Rattle.lb_health_core.specs.RegistryEvents.{Event}
+use Rattle.lb_select_base.specs.Memberships.{same_members}
+use Rattle.lb_health_core.specs.RegistryEvents.{Applied, Event, Updated, cells_given, has_view, views_after}
 use Rattle.lb_health_view.specs.Discoveries.{Discovers, Found}
 use Rattle.lb_health_view.specs.RegistrySide.{registry_updated}
 use Rattle.lb_health_view.specs.Snapshots.{ViewValue}
-use Rattle.lb_health_view.specs.ViewEvents.{ViewEvent}
-use Rattle.lb_health_view.specs.Views.{IsFounded, IsViewAfter, IsViewRefusal}
+use Rattle.lb_health_view.specs.ViewEvents.{ViewEvent, generation_after, membership_after}
+use Rattle.lb_health_view.specs.Views.{HoldsOfBoth, IsFounded, IsViewAfter, IsViewRefusal}
 use Rattle.lb_health_view.specs.Updates.{IsBackendsRefusal}
 use Rattle.lb_threads_core.specs.Registry.{IsRegistryOf, UnderRegistry}
 use Rattle.lb_threads_core.proofs.Histories.{changed, lengthened, stays}
-use Rattle.lb_threads_core.specs.View.{Calls, HasLast, IsState, IsTakenIn, Keeps, LacksNumbers, LacksView, RefusedFor}
+use Rattle.lb_threads_core.proofs.Registrations.{number-left}
+use Rattle.lb_threads_core.specs.View.{Calls, HasLast, IsState, IsTakenIn, Keeps, LacksMemory, LacksNumbers, LacksView, RefusedFor}
 use Rattle.lb_threads_core.specs.View.{Takes, UnderBoth, UpdatedUnder}
 use Rattle.lb_threads_core.specs.View.{ViewHandle}
 use Rattle.lb_threads_core.proofs.Memberships.{is-other, is-same}
@@ -47,6 +49,50 @@ refusal-of e (inr (inr (inr is))) = inr (inr (inr (inr (err-of is))))
 -- what holds of an error
 at-err : {T E P : Type 0} {r : Result T E} {e : E} → r ≡ Err e → OnErr r P → P
 at-err {P = P} is told = subst (λ s. OnErr s P) is told
+
+no-true : (b : Bool) → (b ≡ true → ⊥) → b ≡ false
+no-true true never = absurd (never refl)
+no-true false never = refl
+
+no-false : (b : Bool) → (b ≡ false → ⊥) → b ≡ true
+no-false true never = refl
+no-false false never = absurd (never refl)
+
+-- a refusal for memory is no answer, and none for something else
+no-answer : (A : Type 0) (r : Result A Refusal) → r ≡ Err OutOfMemory → IsOk r → ⊥
+no-answer A (Ok a) memory is = absurd (cc)
+no-answer A (Err e) memory is = absurd (cc)
+
+no-last : (A : Type 0) (r : Result A Refusal) → r ≡ Err OutOfMemory → r ≡ Err GenerationsExhausted → ⊥
+no-last A r memory other = absurd (cc)
+
+no-such : (A : Type 0) (r : Result A Refusal) → r ≡ Err OutOfMemory → r ≡ Err NoSuch → ⊥
+no-such A r memory other = absurd (cc)
+
+no-numbers : (A : Type 0) (r : Result A Refusal) → r ≡ Err OutOfMemory → r ≡ Err NumbersExhausted → ⊥
+no-numbers A r memory other = absurd (cc)
+
+-- the plain view's update is refused for memory only where nothing else stands against it
+pub lacks-memory : {R A : Type 0} {gives : R → Member → Member → Type 0} {v : ViewValue} {x : RegistryValue R} (members : List Member)
+    (r : Result A Refusal) → r ≡ Err OutOfMemory
+    → ((views : List ViewEvent) → IsViewAfter views v → same_members members (membership_after views) ≡ true → IsOk r)
+    → ((views : List ViewEvent) → IsViewAfter views v → same_members members (membership_after views) ≡ false
+    → generation_after views + 1 ≡ 2 ^ 64 → r ≡ Err GenerationsExhausted)
+    → HoldsOfBoth gives v x (λ key_of views events. same_members members (membership_after views) ≡ false
+    → generation_after views + 1 ≢ 2 ^ 64 → has_view v.id (views_after events) ≡ false → r ≡ Err NoSuch)
+    → HoldsOfBoth gives v x (λ key_of views events. same_members members (membership_after views) ≡ false
+    → generation_after views + 1 ≢ 2 ^ 64 → has_view v.id (views_after events) ≡ true
+    → 2 ^ 64 ≤ cells_given key_of (Updated v.id members ∷ Applied ∷ events) → r ≡ Err NumbersExhausted)
+    → LacksMemory gives members v x
+lacks-memory {A = A} members r memory same last missing lacking key_of views events of after =
+    let other = no-true _ (λ is. no-answer A r memory (same views of is)) in
+    let more : generation_after views + 1 ≢ 2 ^ 64 = λ full. no-last A r memory (last views of other full) in
+    let there = no-false _ (λ gone. no-such A r memory (missing key_of views events of after other more gone)) in (
+      other,
+      more,
+      there,
+      number-left _ (λ full. no-numbers A r memory (lacking key_of views events of after other more there full)),
+    )
 
 module _ {R : Type 0} {gives : R → Member → Member → Type 0} where
   -- an update lengthens the registry's history, or is refused
@@ -108,4 +154,6 @@ module _ {R : Type 0} {gives : R → Member → Member → Type 0} where
             (λ x y told. (at-err is told.err, told.unknown (is ∙ ap Err why)));
         numbers = λ why. under (λ members settings v x w y. Keeps gives v x w y × LacksNumbers gives members v x)
             (λ x y told. (at-err is told.err, told.numbers (is ∙ ap Err why)));
+        memory = λ why. inr (under (λ members settings v x w y. Keeps gives v x w y × LacksMemory gives members v x)
+            (λ x y told. (at-err is told.err, told.memory (is ∙ ap Err why))));
       }

@@ -1,6 +1,6 @@
 -- What is known of a view that threads share: its number and its discovery stay; between two calls of a thread others may have changed the
 -- rest. So a call is one of the plain view at some state of this view, and at some state of its registry.
-use Rattle.std.specs.Prelude.{◌≡◌, ◌↔◌, ◌+◌, ◌<◌, ◌≤◌, ◌^◌, ℕ, Bool, true, false, not, List, ◌∷◌, Option, None, MatchOption, Result}
+use Rattle.std.specs.Prelude.{◌≡◌, ◌≢◌, ◌⊎◌, ◌↔◌, ◌+◌, ◌<◌, ◌≤◌, ◌^◌, ℕ, Bool, true, false, not, List, ◌∷◌, Option, None, MatchOption, Result}
 use Rattle.std.specs.Prelude.{IfOk, OnOk, OnErr, IsErrOf, IsTrue}
 use Rattle.atomic_table.specs.Seated.{TableId}
 use Rattle.lb_select_base.specs.Backends.{Member}
@@ -11,7 +11,7 @@ use Rattle.lb_select_base.specs.declared.refusal.Refusal.TheVariants.{Generation
 use Rattle.lb_health_core.specs.Registry.{RegistryValue, IsRegistryAfter, HoldsOf, Grows, KeepsHistory}
 use Rattle.lb_health_core.specs.RegistryEvents.{Applied, Registered, Updated, cells_given, has_view}
 use Rattle.lb_health_core.specs.RegistryEvents.{registered_after, views_after}
-use Rattle.lb_health_view.specs.Discoveries.{Discovers, Found}
+use Rattle.lb_health_view.specs.Discoveries.{Discovers, Found, MayLackMemory}
 use Rattle.lb_health_view.specs.RegistrySide.{IsReady, registry_updated, view_updated}
 use Rattle.lb_health_view.specs.Snapshots.{ViewValue}
 use Rattle.lb_health_view.specs.ViewEvents.{ViewEvent, generation_after, membership_after}
@@ -110,6 +110,14 @@ module _ {R : Type 0} (gives : R → Member → Member → Type 0) where
   LacksNumbers members v x =
       HoldsOf gives x (λ key_of events. 2 ^ 64 ≤ cells_given key_of (Updated v.id members ∷ Applied ∷ events))
 
+  -- Nothing but memory stands against it: the membership is another one, a generation is left for it, the registry has the view, and
+  -- numbers are left for its cells.
+  abbrev pub LacksMemory : List Member → ViewValue → RegistryValue R → Type 0
+  LacksMemory members v x =
+      HoldsOfBoth gives v x (λ key_of views events. (same_members members (membership_after views) ≡ false)
+      × (generation_after views + 1 ≢ 2 ^ 64) × (has_view v.id (views_after events) ≡ true)
+      × (cells_given key_of (Updated v.id members ∷ Applied ∷ events) < 2 ^ 64))
+
   -- A view and its registry took in what was discovered, and it was answered whether that is another membership; or it was refused.
   pub record IsTakenIn (members : List Member) (settings : List (Member × Bool)) (v : ViewValue) (x : RegistryValue R)
       (r : Result Bool Refusal) (w : ViewValue) (y : RegistryValue R) : Type 0 where
@@ -119,6 +127,7 @@ module _ {R : Type 0} (gives : R → Member → Member → Type 0) where
     pub last : IsErrOf r GenerationsExhausted → HasLast v
     pub unknown : IsErrOf r NoSuch → LacksView v x
     pub numbers : IsErrOf r NumbersExhausted → LacksNumbers members v x
+    pub memory : IsErrOf r OutOfMemory → LacksMemory members v x
 
   module _ {D : Type 0} (finds : D → Found → Type 0) (site : ViewHandle D R) where
     -- a call with what was discovered, made at some state of the view and of its registry
@@ -137,8 +146,9 @@ module _ {R : Type 0} (gives : R → Member → Member → Type 0) where
     abbrev pub RefusedUnder : (List Member → ViewValue → RegistryValue R → Type 0) → Type 0
     RefusedUnder Why = UnderBoth (λ members settings v x w y. Keeps v x w y × Why members v x)
 
-    -- the causes of an update's refusals
+    -- The causes of an update's refusals: memory only where no other applies, or where the discovery was refused it.
     pub record RefusedFor (e : Refusal) : Type 0 where
       pub last : e ≡ GenerationsExhausted → RefusedUnder (λ members v x. HasLast v)
       pub unknown : e ≡ NoSuch → RefusedUnder (λ members v x. LacksView v x)
       pub numbers : e ≡ NumbersExhausted → RefusedUnder LacksNumbers
+      pub memory : e ≡ OutOfMemory → MayLackMemory finds site.discovery ⊎ RefusedUnder LacksMemory

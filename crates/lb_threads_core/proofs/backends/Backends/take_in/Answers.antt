@@ -3,7 +3,7 @@ use Rattle.std.proofs.Common.{◌∙◌, rules}
 use Rattle.lb_health_view.specs.RegistrySide.{after_settings, settings_of, with_membership}
 use Rattle.lb_threads_core.proofs.Histories.{at_site, later}
 use Rattle.lb_threads_core.proofs.Memberships.{changed-is, founded-after, is-other, new-members}
-use Rattle.lb_threads_core.proofs.Updates.{err-of, ok-apart, taken-later}
+use Rattle.lb_threads_core.proofs.Updates.{err-of, lacks-memory, ok-apart, taken-later}
 use Rattle.lb_threads_core.proofs.backends.Backends.take_in.Goals as goal
 
 pub put-requires-clause-registry : goal.put-requires-clause-registry
@@ -37,6 +37,7 @@ returns-in-Ok-clause-taken g c =
               last = λ why. absurd (ok-apart why);
               unknown = λ why. absurd (ok-apart why);
               numbers = λ why. absurd (ok-apart why);
+              memory = λ why. absurd (ok-apart why);
             },
           ),
         ),
@@ -72,6 +73,9 @@ returns-in-Err-clause-taken g c =
               last = λ why. c.in-Err.ensures.last (err-of why);
               unknown = λ why. c.in-Err.ensures.unknown (err-of why);
               numbers = λ why. c.in-Err.ensures.numbers (err-of why);
+              memory = λ why.
+                  lacks-memory c.args.members.keys _ (err-of why) c.in-Err.ensures.same c.in-Err.ensures.exhausted
+                  c.in-Err.ensures.missing c.in-Err.ensures.lacking;
             },
           ),
         ),
