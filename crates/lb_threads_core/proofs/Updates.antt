@@ -1,10 +1,12 @@
 -- What a view took in is what its update did, and a refusal has its cause.
-use Rattle.std.proofs.Common.{◌≡◌, ◌≢◌, ◌≤◌, ◌+◌, ◌^◌, inl, inr, ◌∙◌, Bool, true, false, List, ◌∷◌, Some, None, Result, Ok, Err, refl, ap, subst}
+use Rattle.std.proofs.Common.{◌≡◌, ◌≢◌, ◌≤◌, ◌+◌, ◌^◌, inl, inr, ◌∙◌, Bool, true, false}
+use Rattle.std.proofs.Common.{List, ◌∷◌, Some, None, Result, Ok, Err, refl, ap, subst}
 use Rattle.std.specs.Prelude.{OnOk, OnErr, IsErrOf, IsOk}
 use Rattle.std.proofs.lemmas.Result.{IfOk-at_ok}
 use Rattle.lb_select_base.specs.Backends.{Member}
 use Rattle.lb_select_base.specs.declared.refusal.Refusal.{Refusal}
-use Rattle.lb_select_base.specs.declared.refusal.Refusal.TheVariants.{Discovery, GenerationsExhausted, NoSuch, NumbersExhausted, OutOfMemory}
+use Rattle.lb_select_base.specs.declared.refusal.Refusal.TheVariants.{Discovery, GenerationsExhausted, NoSuch}
+use Rattle.lb_select_base.specs.declared.refusal.Refusal.TheVariants.{NumbersExhausted, OutOfMemory}
 use Rattle.lb_health_core.specs.Registry.{RegistryValue, IsRegistryAfter, KeepsHistory}
 use Rattle.lb_select_base.specs.Memberships.{same_members}
 use Rattle.lb_health_core.specs.RegistryEvents.{Applied, Event, Updated, cells_given, has_view, views_after}

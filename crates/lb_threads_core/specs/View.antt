@@ -1,6 +1,7 @@
 -- What is known of a view that threads share: its number and its discovery stay; between two calls of a thread others may have changed the
 -- rest. So a call is one of the plain view at some state of this view, and at some state of its registry.
-use Rattle.std.specs.Prelude.{◌≡◌, ◌≢◌, ◌⊎◌, ◌↔◌, ◌+◌, ◌<◌, ◌≤◌, ◌^◌, ℕ, Bool, true, false, not, List, ◌∷◌, Option, None, MatchOption, Result}
+use Rattle.std.specs.Prelude.{◌≡◌, ◌≢◌, ◌⊎◌, ◌↔◌, ◌+◌, ◌<◌, ◌≤◌, ◌^◌, ℕ, Bool}
+use Rattle.std.specs.Prelude.{true, false, not, List, ◌∷◌, Option, None, MatchOption, Result}
 use Rattle.std.specs.Prelude.{IfOk, OnOk, OnErr, IsErrOf, IsTrue}
 use Rattle.atomic_table.specs.Seated.{TableId}
 use Rattle.lb_select_base.specs.Backends.{Member}
