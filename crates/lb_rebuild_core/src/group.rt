@@ -1,7 +1,7 @@
 //! A group joined with its view: a membership reaches both or neither, and each slot holds the snapshots that it has in use.
 //! A call tests all that it can refuse for before it changes anything; builds run elsewhere, between `ask` and `publish`.
-ghost use Rattle.std.specs.Prelude.{◌≡◌, ◌≢◌, ◌↔◌, ◌<◌, ◌≤◌, ◌+◌, ◌^◌, ◌∷◌, [], true, false, map, replicate, None, Ok, Err};
-ghost use Rattle.std.specs.Prelude.{length, IfOk, IfErr, IsTrue, OnErr, IsErrOf, slice_get};
+ghost use Rattle.std.specs.Prelude.{◌≡◌, ◌≢◌, ◌↔◌, ◌<◌, ◌+◌, ◌∷◌, [], true, map, replicate, None, Ok, Err};
+ghost use Rattle.std.specs.Prelude.{length, IfOk, IfErr, IsTrue, OnErr, slice_get};
 ghost use Rattle.std.specs.Arc.{arc_value};
 ghost use Rattle.lb_select_base.specs.Loads.{load_in};
 ghost use Rattle.lb_select_base.specs.Refusals.{least};
@@ -13,11 +13,10 @@ ghost use Rattle.lb_rebuild_core.specs.Values.{configs_of};
 ghost use Rattle.lb_rebuild_core.specs.Stands.{Made, After as AfterGroup, counts_after};
 ghost use Rattle.lb_rebuild_core.specs.SlotsCalls.{schedule_refusal, Prepares, FitsIfThere, at_slot, SelectsIn};
 ghost use Rattle.lb_health_view.specs.RegistrySide.{IsReady, settings_of};
+ghost use Rattle.lb_health_view.specs.Updates.{RegistryRefuses};
 ghost use Rattle.lb_health_view.specs.ViewEvents.{Held};
 ghost use Rattle.lb_health_view.specs.Views.{IsViewAfter};
 ghost use Rattle.lb_health_core.specs.Registry.{HoldsOf};
-ghost use Rattle.lb_health_core.specs.RegistryEvents.{Applied, Updated, views_after};
-ghost use Rattle.lb_health_core.specs.RegistryEvents.{has_view, cells_given};
 ghost use Rattle.lb_rebuild_core.specs.GroupCalls.{IsRefusedFor, served_at, Judges, IsJudged, AcceptsBy};
 ghost use Rattle.lb_rebuild_core.specs.GroupCalls.{IsGroupMade, IsMade, IsScheduled, IsCancelled, IsAsked, IsFailed, IsPublished};
 ghost use Rattle.lb_rebuild_core.specs.GroupCalls.{IsAbandoned, IsWorkerLost, IsEntered, IsReadyFor, IsTicketDrawn, IsLeft, IsTaken};
@@ -564,18 +563,8 @@ fn prepared<S: BackendSelection, R: KeyRule + Drop>(
     ensures answers { IfOk result (λ p. AfterGroup group.now (λ made h. Prepares made h discovered.now.keys (Ok p))) }
     ensures fits { IfOk result (λ p. FitsIfThere group.now p) }
     ensures refused { IfErr result (λ e. AfterGroup group.now (λ made h. IsRefusedFor h discovered.now.keys e)) }
-    ensures unknown { IsErrOf result Refusal.NoSuch
-        → HoldsOf R.gives registry.now (λ key_of events. AfterGroup group.now (λ made h. has_view view.now.id (views_after events)
-        ≡ false)) }
-    ensures numbers { IsErrOf result Refusal.NumbersExhausted
-        → HoldsOf R.gives registry.now (λ key_of events. AfterGroup group.now (λ made h. 2 ^ 64
-        ≤ cells_given key_of (Updated view.now.id discovered.now.keys ∷ Applied ∷ events))) }
-    ensures missing { IfErr result (λ e. HoldsOf R.gives registry.now (λ key_of events. AfterGroup group.now
-        (λ made h. schedule_refusal discovered.now.keys h ≡ None → has_view view.now.id (views_after events) ≡ false
-        → e ≡ Refusal.NoSuch))) }
-    ensures lacking { IfErr result (λ e. HoldsOf R.gives registry.now (λ key_of events. AfterGroup group.now
-        (λ made h. schedule_refusal discovered.now.keys h ≡ None → has_view view.now.id (views_after events) ≡ true
-        → 2 ^ 64 ≤ cells_given key_of (Updated view.now.id discovered.now.keys ∷ Applied ∷ events) → e ≡ Refusal.NumbersExhausted))) }
+    ensures refusals { IfErr result (λ e. AfterGroup group.now (λ made h. RegistryRefuses R.gives (λ refusal. e ≡ refusal)
+        (λ Holds. schedule_refusal discovered.now.keys h ≡ None → Holds) discovered.now.keys view.now registry.now)) }
 {
     match group.prepare(alloc, discovered) {
         Ok(prepared) => Ok(prepared),

@@ -1,11 +1,13 @@
 -- A registered view, and what is made of it or refused after that.
 use Rattle.std.proofs.Common.{◌≡◌, ◌∙◌, inl, inr, ℕ, Option, Some, None, Result, Ok, Err, IfOk, IfErr, refl, sym, ap, subst}
 use Rattle.std.specs.Prelude.{IsErrOf}
+use Rattle.std.specs.Result.{result_map_both}
 use Rattle.lb_select_base.specs.Backends.{Member}
 use Rattle.lb_select_base.specs.Refusals.{memory_apart}
 use Rattle.lb_select_base.specs.declared.refusal.Refusal.{Refusal}
 use Rattle.lb_select_base.specs.declared.refusal.Refusal.TheVariants.{NumbersExhausted, OutOfMemory}
 use Rattle.lb_health_core.specs.Registry.{IsGrowthRefusal, RegistryValue}
+use Rattle.lb_health_core.specs.RegistryCalls.{IsRegistered}
 use Rattle.lb_rebuild_core.specs.GroupCalls.{IsMade}
 use Rattle.lb_threads_core.specs.Registry.{IsRegistryOf, SeenIn, UnderRegistry}
 use Rattle.lb_threads_core.proofs.Histories.{at_site, registered_later}
@@ -21,9 +23,29 @@ no-number is = cc
 error_of : (A : Type 0) (e f : Refusal) → (let x : Result A Refusal = Err e in let y : Result A Refusal = Err f in x ≡ y) → e ≡ f
 error_of A e f h = cc
 
-err-as : {A B : Type 0} (e : Refusal) → (let r : Result A Refusal = Err e in IsErrOf r NumbersExhausted)
+pub err-as : {A B : Type 0} (e : Refusal) → (let r : Result A Refusal = Err e in IsErrOf r NumbersExhausted)
     → (let s : Result B Refusal = Err e in IsErrOf s NumbersExhausted)
 err-as e is = cc
+
+-- what the registry's call says of the number, of what has that number
+pub registered-as : {A R : Type 0} {gives : R → Member → Member → Type 0} {x y : RegistryValue R} (id_of : A → ℕ) (r : Result A Refusal)
+    → IsRegistered gives x (result_map_both id_of (λ refusal. refusal) r) y → IsRegisteredAs gives id_of r x y
+registered-as {A} id_of (Ok a) is = record {
+  ok = is.ok;
+  number = is.number;
+  exhausted = λ key_of events after. (
+    λ never. absurd (no-err a never),
+    λ full. absurd (no-err (id_of a) ((is.exhausted key_of events after).1 full)),
+  );
+}
+registered-as {A} id_of (Err e) is = record {
+  ok = tt;
+  number = tt;
+  exhausted = λ key_of events after. (
+    λ why. (is.exhausted key_of events after).0 (err-as {A = A} {B = ℕ} e why),
+    λ full. err-as {A = ℕ} {B = A} e ((is.exhausted key_of events after).1 full),
+  );
+}
 
 module _ {R : Type 0} {gives : R → Member → Member → Type 0} {start site : RegistryValue R} (same_start : start ≡ site) {A B : Type 0}
     (id_of : A → ℕ) (id : B → ℕ) {r : Result A Refusal} (told : UnderRegistry gives start (IsRegisteredAs gives id_of r)) where

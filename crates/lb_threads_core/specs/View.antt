@@ -1,7 +1,7 @@
 -- What is known of a view that threads share: its number and its discovery stay; between two calls of a thread others may have changed the
 -- rest. So a call is one of the plain view at some state of this view, and at some state of its registry.
 use Rattle.std.specs.Prelude.{◌≡◌, ◌↔◌, ◌+◌, ◌≤◌, ◌^◌, ℕ, Bool, true, false, not, List, ◌∷◌, Option, None, MatchOption, Result}
-use Rattle.std.specs.Prelude.{IfOk, OnOk, OnErr, IsErrOf, IsTrue}
+use Rattle.std.specs.Prelude.{IfOk, OnOk, IsErrOf, IsTrue}
 use Rattle.atomic_table.specs.Seated.{TableId}
 use Rattle.lb_select_base.specs.Backends.{Member}
 use Rattle.lb_select_base.specs.Memberships.{same_members}
@@ -9,11 +9,11 @@ use Rattle.lb_select_base.specs.Refusals.{memory_apart}
 use Rattle.lb_select_base.specs.declared.refusal.Refusal.{Refusal}
 use Rattle.lb_select_base.specs.declared.refusal.Refusal.TheVariants.{GenerationsExhausted, NoSuch, NumbersExhausted}
 use Rattle.lb_health_core.specs.Registry.{RegistryValue, IsRegistryAfter, HoldsOf, Grows, KeepsHistory}
-use Rattle.lb_health_core.specs.RegistryEvents.{Applied, Registered, Updated, cells_given, has_view}
-use Rattle.lb_health_core.specs.RegistryEvents.{registered_after, views_after}
+use Rattle.lb_health_core.specs.RegistryEvents.{Applied, Registered, registered_after}
 use Rattle.lb_health_view.specs.Discoveries.{Discovers, Found}
 use Rattle.lb_health_view.specs.RegistrySide.{IsReady, registry_updated, view_updated}
 use Rattle.lb_health_view.specs.Snapshots.{ViewValue}
+use Rattle.lb_health_view.specs.Updates.{IsViewUpdated, LacksNumbers, LacksView}
 use Rattle.lb_health_view.specs.ViewEvents.{ViewEvent, generation_after, membership_after}
 use Rattle.lb_health_view.specs.Views.{IsFounded, IsViewAfter, HoldsOfBoth}
 use Rattle.lb_health_view.specs.declared.discovery.DiscoverySource.{DiscoverySource}
@@ -95,23 +95,11 @@ module _ {R : Type 0} (gives : R → Member → Member → Type 0) where
     pub view : After v (λ views. IsViewAfter views w)
     pub registry : KeepsHistory gives x y
 
-  -- Or the registry has no such view, or no number is left for a cell.
-  abbrev pub LacksView : ViewValue → RegistryValue R → Type 0
-  LacksView v x = HoldsOf gives x (λ key_of events. has_view v.id (views_after events) ≡ false)
-
-  abbrev pub LacksNumbers : List Member → ViewValue → RegistryValue R → Type 0
-  LacksNumbers members v x =
-      HoldsOf gives x (λ key_of events. 2 ^ 64 ≤ cells_given key_of (Updated v.id members ∷ Applied ∷ events))
-
   -- A view and its registry took in what was discovered, and it was answered whether that is another membership; or it was refused.
   pub record IsTakenIn (members : List Member) (settings : List (Member × Bool)) (v : ViewValue) (x : RegistryValue R)
       (r : Result Bool Refusal) (w : ViewValue) (y : RegistryValue R) : Type 0 where
-    pub ok : OnOk r (Takes members settings v x w y)
+    pub updated : IsViewUpdated gives members settings v x r w y
     pub changed : IfOk r (λ changed. After v (λ views. changed ≡ not (same_members members (membership_after views))))
-    pub err : OnErr r (Keeps v x w y)
-    pub last : IsErrOf r GenerationsExhausted → HasLast v
-    pub unknown : IsErrOf r NoSuch → LacksView v x
-    pub numbers : IsErrOf r NumbersExhausted → LacksNumbers members v x
 
   module _ {D : Type 0} (finds : D → Found → Type 0) (site : ViewHandle D R) where
     -- a call with what was discovered, made at some state of the view and of its registry
@@ -133,5 +121,5 @@ module _ {R : Type 0} (gives : R → Member → Member → Type 0) where
     -- the causes of an update's refusals
     pub record RefusedFor (e : Refusal) : Type 0 where
       pub last : e ≡ GenerationsExhausted → RefusedUnder (λ members v x. HasLast v)
-      pub unknown : e ≡ NoSuch → RefusedUnder (λ members v x. LacksView v x)
-      pub numbers : e ≡ NumbersExhausted → RefusedUnder LacksNumbers
+      pub unknown : e ≡ NoSuch → RefusedUnder (λ members v x. LacksView gives v x)
+      pub numbers : e ≡ NumbersExhausted → RefusedUnder (LacksNumbers gives)
