@@ -13,10 +13,11 @@ ghost use Rattle.lb_health_view.specs.RegistrySide.{settings_of};
 ghost use Rattle.lb_balancer_core.specs.ServedViews.{SetsFlag, TakesIn};
 ghost use Rattle.lb_balancer_core.specs.Timings.{Reads};
 ghost use Rattle.lb_threads_core.specs.Registry.{IsRegistryOf, SeenIn};
-ghost use Rattle.lb_threads_core.specs.View.{IsFull, IsMadeWithView};
+ghost use Rattle.lb_threads_core.specs.View.{IsFull};
 ghost use Rattle.lb_balancer.specs.History.{IsServedBy, IsServedGeneration, IsShownBy, MayGive};
 ghost use Rattle.lb_balancer.specs.History.{UnderServing};
 ghost use Rattle.lb_balancer.specs.Kept.{IsKept};
+ghost use Rattle.lb_balancer.specs.Made.{IsBalancerMade};
 ghost use Rattle.lb_balancer.specs.Shown.{ShownValue};
 ghost use Rattle.lb_balancer.specs.SharedUpdates.{IsBuildRefusal, IsRoomRefusal, IsSharedRefusal, IsSharedUpdated, ReadsUpdate};
 
@@ -155,11 +156,8 @@ impl<
         backends: Backends<D, R, C>,
         config: Option<S::Config>,
     ) -> Result<Balancing<S, D, R, C>, Refusal>
-        ensures made { IfOk result (λ b. (b.discovery ≡ backends.discovery) × (b.config ≡ unwrap_or config S.default_config)
-            × (b.first ≡ 0) × (b.registry ≡ backends.registry.start)) }
-        ensures view { IsMadeWithView R.gives backends.registry.start (S.refusal [] (unwrap_or config S.default_config)) result
-            (λ b. b.view_id) }
-        ensures refused { IsMakingRefusal (S.refusal [] (unwrap_or config S.default_config)) result }
+        ensures { IsBalancerMade R.gives (S.refusal []) backends.discovery backends.registry.start
+            (unwrap_or config S.default_config) result (λ b. b) }
     {
         let BackendsParts {
             discovery,

@@ -4,6 +4,7 @@ use Rattle.std.specs.Prelude.{Result, Ok, Err, IfOk, IsErrOf, OnErr, OnOk, if◌
 use Rattle.std.specs.Borrow.{Bor}
 use Rattle.std.specs.Fn.{Shared, FnReturns}
 use Rattle.lb_select_base.specs.Backends.{Member}
+use Rattle.lb_select_base.specs.Draws.{Draw}
 use Rattle.lb_select_base.specs.Refusals.{memory_apart}
 use Rattle.lb_select_base.specs.declared.refusal.Refusal.{Refusal}
 use Rattle.lb_select_base.specs.declared.refusal.Refusal.TheVariants.{OutOfMemory, NumbersExhausted}
@@ -300,3 +301,17 @@ pub record AcceptsBy {F B : Type 0} (g : Shared F (Bor B × (Bool × Unit {0})) 
 -- a selection moves the counter of its slot
 abbrev pub after_select : {C : Type 0} → Made C → ℕ → Selection → History → History
 after_select made slot s e = in_group (slots.select_events made slot s) ++ e
+
+-- A slot selected for a key by these loads and given random words, and answered s: what the group was before (v) and is after (w), and
+-- what its registry is (x). `accepts` takes what is right of a backend to what may be answered of it.
+pub record IsSelected {C R : Type 0} (gives : R → Member → Member → Type 0) (random : List Member → C → Bool)
+    (walks : List Member → C → List ℕ → List Draw → List Member → Bool → Type 0)
+    (accepts : (Member → Bool → Type 0) → Member → Bool → Type 0) (load_by : Member → ℕ) (v : GroupValue C) (x : RegistryValue R)
+    (slot : ℕ) (key : List ℕ) (limit : ℕ) (words : List ℕ) (s : Selection) (w : GroupValue C) : Type 0 where
+  -- the answer is that of a walk over what the slot serves, each backend judged in the generation that it serves
+  pub answers : HoldsOf gives x (λ key_of events. After v (λ made e. slots.SelectsIn random walks
+      (accepts (Judges key_of events made e (served_at slot e))) load_by made (slot_events e) slot key limit words s))
+  -- the counter of the slot moves on
+  pub stands : After v (λ made e. Stands made (after_select made slot s e) w)
+  -- gate, configurations and view stay
+  pub site : SameSite v w

@@ -11,16 +11,16 @@ ghost use Rattle.lb_rebuild_core.specs.SlotsHistory.{waits as waits_after, reade
 ghost use Rattle.lb_rebuild_core.specs.SlotsHistory.{extra, flight_after, is_extra};
 ghost use Rattle.lb_rebuild_core.specs.Values.{configs_of};
 ghost use Rattle.lb_rebuild_core.specs.Stands.{Made, After as AfterGroup, counts_after};
-ghost use Rattle.lb_rebuild_core.specs.SlotsCalls.{schedule_refusal, Prepares, FitsIfThere, at_slot, SelectsIn};
+ghost use Rattle.lb_rebuild_core.specs.SlotsCalls.{schedule_refusal, Prepares, FitsIfThere, at_slot};
 ghost use Rattle.lb_health_view.specs.RegistrySide.{IsReady, settings_of};
 ghost use Rattle.lb_health_view.specs.Updates.{RegistryRefuses};
 ghost use Rattle.lb_health_view.specs.ViewEvents.{Held};
 ghost use Rattle.lb_health_view.specs.Views.{IsViewAfter};
 ghost use Rattle.lb_health_core.specs.Registry.{HoldsOf};
-ghost use Rattle.lb_rebuild_core.specs.GroupCalls.{IsRefusedFor, served_at, Judges, IsJudged, AcceptsBy};
+ghost use Rattle.lb_rebuild_core.specs.GroupCalls.{IsRefusedFor, IsJudged, IsSelected, AcceptsBy};
 ghost use Rattle.lb_rebuild_core.specs.GroupCalls.{IsGroupMade, IsMade, IsScheduled, IsCancelled, IsAsked, IsFailed, IsPublished};
 ghost use Rattle.lb_rebuild_core.specs.GroupCalls.{IsAbandoned, IsWorkerLost, IsEntered, IsReadyFor, IsTicketDrawn, IsLeft, IsTaken};
-ghost use Rattle.lb_rebuild_core.specs.GroupCalls.{IsReported, after_select};
+ghost use Rattle.lb_rebuild_core.specs.GroupCalls.{IsReported};
 ghost use Rattle.lb_rebuild_core.specs.GroupHistory.{History, Set, slot_events, members_now};
 ghost use Rattle.lb_rebuild_core.specs.GroupStates.{Stands, IsFounded, After, Becomes, SameSite, views_of};
 
@@ -398,11 +398,8 @@ impl<S: BackendSelection> GroupCore<S> {
         loads: &Loads,
     ) -> Selection
         requires registry { registry.now.id ≡ self.old.registry }
-        ensures answers { HoldsOf R.gives registry.now (λ key_of events. After self.old (λ made e. SelectsIn S.may_draw_random S.walks
-            (Judges key_of events made e (served_at slot e)) (load_in loads.now) made
-            (slot_events e) slot key.now limit random.now result)) }
-        ensures stands { After self.old (λ made e. Stands made (after_select made slot result e) self.new) }
-        ensures site { SameSite self.old self.new }
+        ensures { IsSelected R.gives S.may_draw_random S.walks (λ right. right) (load_in loads.now) self.old registry.now slot key.now limit
+            random.now result self.new }
     {
         self.select_with(
             alloc,
@@ -432,11 +429,8 @@ impl<S: BackendSelection> GroupCore<S> {
     ) -> Selection
         requires accept { F.IsAlwaysCallable accept.now }
         requires registry { registry.now.id ≡ self.old.registry }
-        ensures answers { HoldsOf R.gives registry.now (λ key_of events. After self.old (λ made e. SelectsIn S.may_draw_random S.walks
-            (AcceptsBy F.Fn accept.now (Judges key_of events made e (served_at slot e))) (load_in loads.now) made
-            (slot_events e) slot key.now limit random.now result)) }
-        ensures stands { After self.old (λ made e. Stands made (after_select made slot result e) self.new) }
-        ensures site { SameSite self.old self.new }
+        ensures { IsSelected R.gives S.may_draw_random S.walks (AcceptsBy F.Fn accept.now) (load_in loads.now) self.old registry.now slot
+            key.now limit random.now result self.new }
     {
         let served = self.group.served(slot).unwrap_or(0);
         let view = &self.view;
