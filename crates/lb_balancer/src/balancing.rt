@@ -13,7 +13,7 @@ ghost use Rattle.lb_health_view.specs.RegistrySide.{settings_of};
 ghost use Rattle.lb_balancer_core.specs.ServedViews.{SetsFlag, TakesIn};
 ghost use Rattle.lb_balancer_core.specs.Timings.{Reads};
 ghost use Rattle.lb_threads_core.specs.Registry.{IsRegistryOf, SeenIn};
-ghost use Rattle.lb_threads_core.specs.View.{IsFull};
+ghost use Rattle.lb_threads_core.specs.View.{HasNumber, IsFull};
 ghost use Rattle.lb_balancer.specs.History.{IsServedBy, IsServedGeneration, IsShownBy, MayGive};
 ghost use Rattle.lb_balancer.specs.History.{UnderServing};
 ghost use Rattle.lb_balancer.specs.Kept.{IsKept};
@@ -671,10 +671,14 @@ fn first_built<S: BackendSelection, R: KeyRule + Drop, C: HealthCheck + Drop, W:
     ensures refused { IsMakingRefusal (S.refusal [] (unwrap_or config.now S.default_config)) result }
     ensures exhausted { memory_apart (S.refusal [] (unwrap_or config.now S.default_config)) ≡ None → IsErrOf result Refusal.NumbersExhausted
         → SeenIn R.gives registry.now.start (IsFull R.gives) }
+    ensures left { memory_apart (S.refusal [] (unwrap_or config.now S.default_config)) ≡ None → IsErrOf result Refusal.OutOfMemory
+        → SeenIn R.gives registry.now.start (HasNumber R.gives) }
 {
     match built_of(alloc, &BTreeSet::new(alloc), config, 0) {
         Ok(built) => Ok(built),
         Err(Refusal::OutOfMemory) if registry.is_full(rt) => Err(Refusal::NumbersExhausted),
+        // An arm of its own, so that the prover knows that a number was left.
+        Err(Refusal::OutOfMemory) => Err(Refusal::OutOfMemory),
         Err(refusal) => Err(refusal),
     }
 }

@@ -1,7 +1,6 @@
 -- What is served first is a view to which nothing has happened, under the number that it was registered under.
-use Rattle.std.proofs.Common.{◌≡◌, ◌∙◌, [], Err, ap, arith, rules, sym}
-use Rattle.lb_threads_core.proofs.Histories.{at_site}
-use Rattle.lb_threads_core.proofs.Registrations.{had-none, has-registered, lost-with, made-with, refused-with}
+use Rattle.std.proofs.Common.{◌≡◌, ◌∙◌, [], Err, ap, arith, refl, rules, sym}
+use Rattle.lb_threads_core.proofs.Registrations.{had-none, had-one, has-registered, left-for, lost-with, made-with, refused-with, seen-at}
 use Rattle.lb_balancer.specs.History.{BalancerValue}
 use Rattle.lb_balancer.proofs.Served.{none-yet}
 use Rattle.lb_balancer.proofs.balancing.Balancing.new.Goals as goal
@@ -23,9 +22,9 @@ returns-in_err-built g c =
     let is : c.from_residual.result ≡ Err e = search rules in
     record {
       made = search rules;
-      view = refused-with c.from_residual.result e is (λ apart numbers.
-          let full = c.first_built.ensures.exhausted apart (c.in_err-built.was ∙ ap Err numbers) in
-          (full.0, (at_site (search rules) full.1.0, full.1.1)));
+      view = refused-with c.from_residual.result e is
+          (λ apart numbers. seen-at (search rules) (c.first_built.ensures.exhausted apart (c.in_err-built.was ∙ ap Err numbers)))
+          (λ apart memory. seen-at (search rules) (c.first_built.ensures.left apart (c.in_err-built.was ∙ ap Err memory)));
       refused = search rules;
     }
 
@@ -35,8 +34,9 @@ returns-in_err-view g c =
     let is : c.from_residual-in_err-view.result ≡ Err e = search rules in
     record {
       made = search rules;
-      view = refused-with c.from_residual-in_err-view.result e is (λ apart numbers.
-          had-none (search rules) c.registered_view.ensures.registered e c.in_err-view.was numbers);
+      view = refused-with c.from_residual-in_err-view.result e is
+          (λ apart numbers. had-none (search rules) c.registered_view.ensures.registered e c.in_err-view.was numbers)
+          (λ apart memory. had-one (search rules) c.registered_view.ensures.registered e c.in_err-view.was memory);
       refused = search rules;
     }
 
@@ -46,7 +46,8 @@ returns-in_err-owner g c =
     let is : c.from_residual-in_err-owner.result ≡ Err e = search rules in
     record {
       made = search rules;
-      view = lost-with c.from_residual-in_err-owner.result e is (search rules);
+      view = lost-with c.from_residual-in_err-owner.result e is (search rules) (λ apart. left-for
+          (has-registered (search rules) c.registered_view.ensures.registered c.in_ok-view.view c.in_ok-view.was c.in_ok-view.view.id refl));
       refused = search rules;
     }
 
@@ -56,7 +57,8 @@ returns-in_err-places g c =
     let is : c.from_residual-in_err-places.result ≡ Err e = search rules in
     record {
       made = search rules;
-      view = lost-with c.from_residual-in_err-places.result e is (search rules);
+      view = lost-with c.from_residual-in_err-places.result e is (search rules) (λ apart. left-for
+          (has-registered (search rules) c.registered_view.ensures.registered c.in_ok-view.view c.in_ok-view.was c.in_ok-view.view.id refl));
       refused = search rules;
     }
 
