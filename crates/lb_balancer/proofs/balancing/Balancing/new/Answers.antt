@@ -46,8 +46,10 @@ returns-in_err-owner g c =
     let is : c.from_residual-in_err-owner.result ≡ Err e = search rules in
     record {
       made = search rules;
-      view = lost-with c.from_residual-in_err-owner.result e is (search rules) (λ apart. left-for
-          (has-registered (search rules) c.registered_view.ensures.registered c.in_ok-view.view c.in_ok-view.was c.in_ok-view.view.id refl));
+      view = lost-with c.from_residual-in_err-owner.result e is (search rules) (λ apart.
+          left-for
+          (has-registered (search rules) c.registered_view.ensures.registered c.in_ok-view.view c.in_ok-view.was c.in_ok-view.view.id
+          refl));
       refused = search rules;
     }
 
@@ -57,8 +59,10 @@ returns-in_err-places g c =
     let is : c.from_residual-in_err-places.result ≡ Err e = search rules in
     record {
       made = search rules;
-      view = lost-with c.from_residual-in_err-places.result e is (search rules) (λ apart. left-for
-          (has-registered (search rules) c.registered_view.ensures.registered c.in_ok-view.view c.in_ok-view.was c.in_ok-view.view.id refl));
+      view = lost-with c.from_residual-in_err-places.result e is (search rules) (λ apart.
+          left-for
+          (has-registered (search rules) c.registered_view.ensures.registered c.in_ok-view.view c.in_ok-view.was c.in_ok-view.view.id
+          refl));
       refused = search rules;
     }
 
