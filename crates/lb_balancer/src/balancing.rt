@@ -13,10 +13,11 @@ ghost use Rattle.lb_health_view.specs.RegistrySide.{settings_of};
 ghost use Rattle.lb_balancer_core.specs.ServedViews.{SetsFlag, TakesIn};
 ghost use Rattle.lb_balancer_core.specs.Timings.{Reads};
 ghost use Rattle.lb_threads_core.specs.Registry.{IsRegistryOf, SeenIn};
-ghost use Rattle.lb_threads_core.specs.View.{IsFull, IsMadeWithView};
+ghost use Rattle.lb_threads_core.specs.View.{HasNumber, IsFull};
 ghost use Rattle.lb_balancer.specs.History.{IsServedBy, IsServedGeneration, IsShownBy, MayGive};
 ghost use Rattle.lb_balancer.specs.History.{UnderServing};
 ghost use Rattle.lb_balancer.specs.Kept.{IsKept};
+ghost use Rattle.lb_balancer.specs.Made.{IsBalancerMade};
 ghost use Rattle.lb_balancer.specs.Shown.{ShownValue};
 ghost use Rattle.lb_balancer.specs.SharedUpdates.{IsBuildRefusal, IsRoomRefusal, IsSharedRefusal, IsSharedUpdated, ReadsUpdate};
 
@@ -155,11 +156,8 @@ impl<
         backends: Backends<D, R, C>,
         config: Option<S::Config>,
     ) -> Result<Balancing<S, D, R, C>, Refusal>
-        ensures made { IfOk result (λ b. (b.discovery ≡ backends.discovery) × (b.config ≡ unwrap_or config S.default_config)
-            × (b.first ≡ 0) × (b.registry ≡ backends.registry.start)) }
-        ensures view { IsMadeWithView R.gives backends.registry.start (S.refusal [] (unwrap_or config S.default_config)) result
-            (λ b. b.view_id) }
-        ensures refused { IsMakingRefusal (S.refusal [] (unwrap_or config S.default_config)) result }
+        ensures { IsBalancerMade R.gives (S.refusal []) backends.discovery backends.registry.start
+            (unwrap_or config S.default_config) result (λ b. b) }
     {
         let BackendsParts {
             discovery,
@@ -673,10 +671,14 @@ fn first_built<S: BackendSelection, R: KeyRule + Drop, C: HealthCheck + Drop, W:
     ensures refused { IsMakingRefusal (S.refusal [] (unwrap_or config.now S.default_config)) result }
     ensures exhausted { memory_apart (S.refusal [] (unwrap_or config.now S.default_config)) ≡ None → IsErrOf result Refusal.NumbersExhausted
         → SeenIn R.gives registry.now.start (IsFull R.gives) }
+    ensures left { memory_apart (S.refusal [] (unwrap_or config.now S.default_config)) ≡ None → IsErrOf result Refusal.OutOfMemory
+        → SeenIn R.gives registry.now.start (HasNumber R.gives) }
 {
     match built_of(alloc, &BTreeSet::new(alloc), config, 0) {
         Ok(built) => Ok(built),
         Err(Refusal::OutOfMemory) if registry.is_full(rt) => Err(Refusal::NumbersExhausted),
+        // An arm of its own, so that the prover knows that a number was left.
+        Err(Refusal::OutOfMemory) => Err(Refusal::OutOfMemory),
         Err(refusal) => Err(refusal),
     }
 }

@@ -1,10 +1,10 @@
 //! `LoadBalancer`: a balancer that threads share. Selections, updates, checks and readings need a borrow only.
 ghost use Rattle.std.specs.Prelude.{◌≡◌, [], IfOk, IfErr, OnOk, OnErr, None, unwrap_or, false};
 ghost use Rattle.std.specs.Arc.{arc_value};
-ghost use Rattle.lb_rebuild_core.specs.GroupCalls.{AcceptsBy, IsMakingRefusal};
+ghost use Rattle.lb_rebuild_core.specs.GroupCalls.{AcceptsBy};
 ghost use Rattle.lb_health_core.specs.Registry.{IsGrowthRefusal};
-ghost use Rattle.lb_threads_core.specs.View.{IsMadeWithView};
 ghost use Rattle.lb_balancer.specs.History.{IsServedGeneration, IsShownBy};
+ghost use Rattle.lb_balancer.specs.Made.{IsBalancerMade};
 ghost use Rattle.lb_balancer.specs.Selections.{SelectsFrom};
 ghost use Rattle.lb_balancer.specs.Shown.{ShownValue};
 ghost use Rattle.lb_balancer.specs.SharedUpdates.{IsSharedRefusal, IsSharedUpdated, ReadsUpdate};
@@ -67,12 +67,10 @@ impl<
         alloc: Global,
         backends: Backends<D, R, C>,
     ) -> Result<LoadBalancer<S, D, R, C>, Refusal>
-        ensures made { IfOk result (λ b. (b.shared.discovery ≡ backends.discovery) × (b.shared.config ≡ S.default_config)
-            × (b.shared.first ≡ 0) × (b.shared.registry ≡ backends.registry.start)) }
-        ensures view { IsMadeWithView R.gives backends.registry.start (S.refusal [] S.default_config) result (λ b. b.shared.view_id) }
+        ensures made { IsBalancerMade R.gives (S.refusal []) backends.discovery backends.registry.start S.default_config result
+            (λ b. b.shared) }
         ensures parts { IfOk result (λ b. (b.owns_checks ≡ backends.owns_checks) × (b.health_check_frequency ≡ None)
             × (b.update_frequency ≡ None) × (b.parallel_health_check ≡ false)) }
-        ensures refused { IsMakingRefusal (S.refusal [] S.default_config) result }
     {
         LoadBalancer::from_backends_with_config(rt, alloc, backends, None)
     }
@@ -91,14 +89,10 @@ impl<
         backends: Backends<D, R, C>,
         config: Option<S::Config>,
     ) -> Result<LoadBalancer<S, D, R, C>, Refusal>
-        ensures made { IfOk result (λ b. (b.shared.discovery ≡ backends.discovery)
-            × (b.shared.config ≡ unwrap_or config S.default_config) × (b.shared.first ≡ 0)
-            × (b.shared.registry ≡ backends.registry.start)) }
-        ensures view { IsMadeWithView R.gives backends.registry.start (S.refusal [] (unwrap_or config S.default_config)) result
-            (λ b. b.shared.view_id) }
+        ensures made { IsBalancerMade R.gives (S.refusal []) backends.discovery backends.registry.start
+            (unwrap_or config S.default_config) result (λ b. b.shared) }
         ensures parts { IfOk result (λ b. (b.owns_checks ≡ backends.owns_checks) × (b.health_check_frequency ≡ None)
             × (b.update_frequency ≡ None) × (b.parallel_health_check ≡ false)) }
-        ensures refused { IsMakingRefusal (S.refusal [] (unwrap_or config S.default_config)) result }
     {
         let owns_checks = backends.owns_checks();
         let shared = Balancing::new(rt, alloc, backends, config)?;

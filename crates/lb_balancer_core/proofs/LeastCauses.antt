@@ -1,6 +1,6 @@
 -- Why view and registry refuse a membership: the least cause that applies, and memory only where none does.
 use Rattle.std.proofs.Common.{◌≡◌, inl, inr, ◌∙◌, ◌+◌, ◌^◌, ◌≤◌, ℕ, Bool, true, false, not, List, ◌∷◌, Some, None, Result}
-use Rattle.std.proofs.Common.{Err, IsErrOf, OnErr, IsOk, refl, sym, subst, arith, unwrap_or}
+use Rattle.std.proofs.Common.{Err, OnErr, IsOk, ap, refl, sym, subst, arith, unwrap_or}
 use Rattle.std.specs.Prelude.{◌≢◌, ◌==◌, if◌then◌else◌, nat_le}
 use Rattle.std.proofs.lemmas.Bool.{false≢true, eq-eqb}
 use Rattle.std.proofs.lemmas.Bool.Decides.{nat_tests}
@@ -8,10 +8,11 @@ use Rattle.lb_select_base.specs.Backends.{Member}
 use Rattle.lb_select_base.specs.Memberships.{same_members}
 use Rattle.lb_select_base.specs.declared.refusal.Refusal.{Refusal}
 use Rattle.lb_select_base.specs.declared.refusal.Refusal.TheVariants.{GenerationsExhausted, NoSuch, NumbersExhausted, OutOfMemory}
-use Rattle.lb_health_core.specs.Registry.{RegistryValue, HoldsOf}
+use Rattle.lb_health_core.specs.Registry.{RegistryValue}
 use Rattle.lb_health_core.specs.RegistryEvents.{Updated, Applied, cells_given, has_view, views_after}
 use Rattle.lb_health_view.specs.Causes.{view_cause}
 use Rattle.lb_health_view.specs.Snapshots.{ViewValue}
+use Rattle.lb_health_view.specs.Updates.{IfAnother, ViewRefuses}
 use Rattle.lb_health_view.specs.ViewEvents.{ViewEvent, generation_after, membership_after}
 use Rattle.lb_health_view.specs.Views.{HoldsOfBoth, IsViewAfter, IsViewRefusal}
 use Rattle.lb_balancer_core.specs.ServedViews.{IsLeastCause}
@@ -68,36 +69,27 @@ module _ {R A : Type 0} (gives : R → Member → Member → Type 0) (v : ViewVa
   tell f h = subst (λ f. r ≡ err f) h is
 
   -- a refused update of a view tells the least cause
-  pub least-cause :
-      ((views : List ViewEvent) → IsViewAfter views v → same_members members (membership_after views) ≡ true → IsOk r)
-      → ((views : List ViewEvent) → IsViewAfter views v → same_members members (membership_after views) ≡ false
-      → generation_after views + 1 ≡ 2 ^ 64 → r ≡ err GenerationsExhausted)
-      → (IsErrOf r GenerationsExhausted → (views : List ViewEvent) → IsViewAfter views v → generation_after views + 1 ≡ 2 ^ 64)
-      → HoldsOfBoth gives v x (λ key_of views events. same_members members (membership_after views) ≡ false
-      → generation_after views + 1 ≢ 2 ^ 64 → has_view v.id (views_after events) ≡ false → r ≡ err NoSuch)
-      → (IsErrOf r NoSuch → HoldsOf gives x (λ key_of events. has_view v.id (views_after events) ≡ false))
-      → HoldsOfBoth gives v x (λ key_of views events. same_members members (membership_after views) ≡ false
-      → generation_after views + 1 ≢ 2 ^ 64 → has_view v.id (views_after events) ≡ true
-      → 2 ^ 64 ≤ cells_given key_of (Updated v.id members ∷ Applied ∷ events) → r ≡ err NumbersExhausted)
-      → (IsErrOf r NumbersExhausted
-      → HoldsOf gives x (λ key_of events. 2 ^ 64 ≤ cells_given key_of (Updated v.id members ∷ Applied ∷ events)))
-      → OnErr r (IsViewRefusal r) → IsLeastCause gives v x members e
-  least-cause same exhausted last missing unknown lacking numbers refused key_of views events after registry =
+  pub least-cause : {w : ViewValue} {y : RegistryValue R}
+      → ((views : List ViewEvent) → IsViewAfter views v → same_members members (membership_after views) ≡ true → IsOk r)
+      → ViewRefuses gives (IfAnother members v) members v x r w y → IsLeastCause gives v x members e
+  least-cause same refusals key_of views events after registry =
       let other = other-of (same_members members (membership_after views))
       (λ h. no-answer A e (subst (λ y. IsOk y) is (same views after h)))
       in
-      let kind = subst (λ y. OnErr y (IsViewRefusal y)) is refused in
+      let kind = subst (λ y. OnErr y (IsViewRefusal y)) is refusals.refused in
       let n = generation_after views + 1 in
+      let next : v.generation + 1 ≡ n = ap (λ m. m + 1) after.generation in
       let given = cells_given key_of (Updated v.id members ∷ Applied ∷ events) in
       by-tests (n == 2 ^ 64) (has_view v.id (views_after events)) (nat_le (2 ^ 64) given) e
-      (λ a. told GenerationsExhausted (exhausted views after other (equal-of n (2 ^ 64) a)))
-      (λ a b. told NoSuch (missing key_of views events after registry other (differ-of n (2 ^ 64) a) b))
-      (λ a b c. told NumbersExhausted
-      (lacking key_of views events after registry other (differ-of n (2 ^ 64) a) b (least-of (2 ^ 64) given c)))
+      (λ a. told GenerationsExhausted (refusals.exhausted views after other (next ∙ equal-of n (2 ^ 64) a)))
+      (λ a b. told NoSuch (refusals.registry.missing key_of events registry views after other
+      (λ full. differ-of n (2 ^ 64) a (sym next ∙ full)) b))
+      (λ a b c. told NumbersExhausted (refusals.registry.lacking key_of events registry views after other
+      (λ full. differ-of n (2 ^ 64) a (sym next ∙ full)) b (least-of (2 ^ 64) given c)))
       (λ a b c. by-kind A e kind
-      (λ h. differ-of n (2 ^ 64) a (last (tell GenerationsExhausted h) views after))
-      (λ h. false≢true (sym (unknown (tell NoSuch h) key_of events registry) ∙ b))
-      (λ h. more-of (2 ^ 64) given c (numbers (tell NumbersExhausted h) key_of events registry)))
+      (λ h. differ-of n (2 ^ 64) a (sym next ∙ refusals.last (tell GenerationsExhausted h)))
+      (λ h. false≢true (sym (refusals.registry.unknown (tell NoSuch h) key_of events registry) ∙ b))
+      (λ h. more-of (2 ^ 64) given c (refusals.registry.numbers (tell NumbersExhausted h) key_of events registry)))
 
 -- where no test holds there is no cause
 by-none : (a b c : Bool) → (a ≡ true → ⊥) → (a ≡ false → b ≡ false → ⊥) → (a ≡ false → b ≡ true → c ≡ true → ⊥)
@@ -116,21 +108,18 @@ module _ {R A : Type 0} (gives : R → Member → Member → Type 0) (v : ViewVa
   none f is = no-answer A f (subst (λ y. IsOk y) is answered)
 
   -- where a view took another membership there was no cause to refuse it
-  pub free-of-cause : ((views : List ViewEvent) → IsViewAfter views v → same_members members (membership_after views) ≡ false)
-      → ((views : List ViewEvent) → IsViewAfter views v → same_members members (membership_after views) ≡ false
-      → generation_after views + 1 ≡ 2 ^ 64 → r ≡ refusal GenerationsExhausted)
-      → HoldsOfBoth gives v x (λ key_of views events. same_members members (membership_after views) ≡ false
-      → generation_after views + 1 ≢ 2 ^ 64 → has_view v.id (views_after events) ≡ false → r ≡ refusal NoSuch)
-      → HoldsOfBoth gives v x (λ key_of views events. same_members members (membership_after views) ≡ false
-      → generation_after views + 1 ≢ 2 ^ 64 → has_view v.id (views_after events) ≡ true
-      → 2 ^ 64 ≤ cells_given key_of (Updated v.id members ∷ Applied ∷ events) → r ≡ refusal NumbersExhausted)
+  pub free-of-cause : {w : ViewValue} {y : RegistryValue R}
+      → ((views : List ViewEvent) → IsViewAfter views v → same_members members (membership_after views) ≡ false)
+      → ViewRefuses gives (IfAnother members v) members v x r w y
       → HoldsOfBoth gives v x (λ key_of views events. view_cause key_of v.id members events views ≡ None)
-  free-of-cause differ exhausted missing lacking key_of views events after registry =
+  free-of-cause differ refusals key_of views events after registry =
       let other = differ views after in
       let n = generation_after views + 1 in
+      let next : v.generation + 1 ≡ n = ap (λ m. m + 1) after.generation in
       let given = cells_given key_of (Updated v.id members ∷ Applied ∷ events) in
       by-none (n == 2 ^ 64) (has_view v.id (views_after events)) (nat_le (2 ^ 64) given)
-      (λ a. none GenerationsExhausted (exhausted views after other (equal-of n (2 ^ 64) a)))
-      (λ a b. none NoSuch (missing key_of views events after registry other (differ-of n (2 ^ 64) a) b))
-      (λ a b c. none NumbersExhausted
-      (lacking key_of views events after registry other (differ-of n (2 ^ 64) a) b (least-of (2 ^ 64) given c)))
+      (λ a. none GenerationsExhausted (refusals.exhausted views after other (next ∙ equal-of n (2 ^ 64) a)))
+      (λ a b. none NoSuch (refusals.registry.missing key_of events registry views after other
+      (λ full. differ-of n (2 ^ 64) a (sym next ∙ full)) b))
+      (λ a b c. none NumbersExhausted (refusals.registry.lacking key_of events registry views after other
+      (λ full. differ-of n (2 ^ 64) a (sym next ∙ full)) b (least-of (2 ^ 64) given c)))

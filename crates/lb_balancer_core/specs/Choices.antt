@@ -1,5 +1,5 @@
 -- A selection from what a balancer with one selector serves.
-use Rattle.std.specs.Prelude.{ℕ, Bool, List, Option, Result}
+use Rattle.std.specs.Prelude.{◌≡◌, ◌∷◌, ℕ, Bool, List, Option, Result}
 use Rattle.lb_select_base.specs.Backends.{Member, same_member}
 use Rattle.lb_select_base.specs.Draws.{Draw}
 use Rattle.lb_select_base.specs.Selections.{Selects}
@@ -7,7 +7,7 @@ use Rattle.lb_select_base.specs.declared.refusal.Refusal.{Refusal}
 use Rattle.lb_select_base.specs.declared.words.CoreWords.{CoreWords}
 use Rattle.lb_health_core.specs.Registry.{RegistryValue, HoldsOf}
 use Rattle.lb_health_core.specs.RegistryEvents.{Event}
-use Rattle.lb_balancer_core.specs.Balancer.{History, ServedValue, After, members_now}
+use Rattle.lb_balancer_core.specs.Balancer.{History, ServedValue, Stands, After, Drew, members_now}
 
 module _ {C G R : Type 0} (gives : R → Member → Member → Type 0) (draws : CoreWords G → Draw → CoreWords G → Type 0)
     (walks : List Member → C → List ℕ → List Draw → List Member → Bool → Type 0)
@@ -17,3 +17,13 @@ module _ {C G R : Type 0} (gives : R → Member → Member → Type 0) (draws : 
   Chooses registry was key limit answer now =
       HoldsOf gives registry (λ key_of events. After was (λ e. Selects same_member (accepts key_of events e) limit draws (walks
       (members_now e) was.config key) was.words answer now.words))
+
+  -- a balancer with one selector chose for a key, and answered r: what it served before (v) and serves after (w)
+  pub record IsChosen (x : RegistryValue R) (v : ServedValue C G) (key : List ℕ) (limit : ℕ) (r : Result (Option Member) Refusal)
+      (w : ServedValue C G) : Type 0 where
+    -- the answer is right
+    pub answers : Chooses x v key limit r w
+    -- the counter of tickets is where the selection left it
+    pub stands : After v (λ e. Stands (Drew w.words.tickets ∷ e) w)
+    -- all but the words stays
+    pub kept : w ≡ record v { words = w.words }

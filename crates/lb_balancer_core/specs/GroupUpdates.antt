@@ -1,16 +1,15 @@
 -- What an update of a group balancer does: what the discovery gave is scheduled at the clock's second reading.
-use Rattle.std.specs.Prelude.{◌≡◌, ◌⊎◌, ◌^◌, ◌≤◌, ℕ, Bool, true, false, List, [], ◌∷◌, Option, None, Ok}
+use Rattle.std.specs.Prelude.{◌≡◌, ◌⊎◌, ℕ, Bool, List, [], ◌∷◌, Option, Ok}
 use Rattle.lb_select_base.specs.Backends.{Member}
 use Rattle.lb_select_base.specs.declared.refusal.Refusal.{Refusal}
-use Rattle.lb_select_base.specs.declared.refusal.Refusal.TheVariants.{Discovery, OutOfMemory, NoSuch, NumbersExhausted}
+use Rattle.lb_select_base.specs.declared.refusal.Refusal.TheVariants.{Discovery, OutOfMemory}
 use Rattle.lb_health_core.specs.Registry.{RegistryValue, IsRegistryAfter, HoldsOf}
-use Rattle.lb_health_core.specs.RegistryEvents.{Applied, Updated, cells_given, has_view, views_after}
-use Rattle.lb_rebuild_core.specs.SlotsCalls.{is_change, schedule_refusal}
 use Rattle.lb_rebuild_core.specs.declared.membership.Scheduled.{Scheduled}
 use Rattle.lb_health_view.specs.Discoveries.{Discovers, Found, MayFault, MayLackMemory}
 use Rattle.lb_health_view.specs.RegistrySide.{registry_updated}
+use Rattle.lb_health_view.specs.Updates.{RegistryRefuses}
 use Rattle.lb_health_view.specs.declared.discovery.DiscoverySource.{DiscoverySource}
-use Rattle.lb_rebuild_core.specs.GroupCalls.{IsRefusedFor, Schedules, after_schedule}
+use Rattle.lb_rebuild_core.specs.GroupCalls.{IfOpen, IsRefusedFor, Schedules, after_schedule}
 use Rattle.lb_rebuild_core.specs.GroupHistory.{slot_events}
 use Rattle.lb_rebuild_core.specs.GroupStates.{GroupValue, Stands, After, views_of}
 use Rattle.lb_balancer_core.specs.Timings.{Reads, update_timing}
@@ -42,14 +41,7 @@ module _ {D C R : Type 0} (finds : D → Found → Type 0) (gives : R → Member
     pub settings : List (Member × Bool)
     pub discovered : Discovers finds discovery members settings
     pub cause : After was (λ made e. IsRefusedFor (slot_events e) members r)
-    pub unknown : r ≡ NoSuch → HoldsOf gives before (λ key_of events. has_view was.view.id (views_after events) ≡ false)
-    pub numbers : r ≡ NumbersExhausted → HoldsOf gives before (λ key_of events. 2 ^ 64
-        ≤ cells_given key_of (Updated was.view.id members ∷ Applied ∷ events))
-    pub missing : HoldsOf gives before (λ key_of events. After was (λ made e. schedule_refusal members (slot_events e) ≡ None
-        → is_change members (slot_events e) ≡ true → has_view was.view.id (views_after events) ≡ false → r ≡ NoSuch))
-    pub lacking : HoldsOf gives before (λ key_of events. After was (λ made e. schedule_refusal members (slot_events e) ≡ None
-        → is_change members (slot_events e) ≡ true → has_view was.view.id (views_after events) ≡ true
-        → 2 ^ 64 ≤ cells_given key_of (Updated was.view.id members ∷ Applied ∷ events) → r ≡ NumbersExhausted))
+    pub refusals : RegistryRefuses gives (λ refusal. r ≡ refusal) (IfOpen members was) members was.view before
 
   -- the discovery answers a fault or is refused memory, or what it gave is refused
   abbrev pub IsGroupRefusal : Refusal → Type 0

@@ -1,9 +1,8 @@
 -- What the calls that change what is served leave as it was: of a view with its selector and words alone, and of a balancer with them.
-use Rattle.std.specs.Prelude.{◌≡◌, ℕ, Result, IfOk, IfErr, OnErr}
+use Rattle.std.specs.Prelude.{◌≡◌, ℕ, Result, OnErr}
 use Rattle.lb_select_base.specs.Backends.{Member}
-use Rattle.lb_select_base.specs.Loads.{SetsLoad, load_in}
+use Rattle.lb_select_base.specs.Loads.{IsLoadAnswer, load_in}
 use Rattle.lb_select_base.specs.declared.refusal.Refusal.{Refusal}
-use Rattle.lb_select_base.specs.declared.refusal.Refusal.TheVariants.{OutOfMemory}
 use Rattle.lb_health_core.specs.Registry.{RegistryValue, KeepsHistory}
 use Rattle.lb_balancer_core.specs.Balancer.{ServedValue, Stands, After}
 
@@ -27,9 +26,7 @@ pub record KeepsServed {C G R A : Type 0} (gives : R → Member → Member → T
 pub record IsLoadSet {C G : Type 0} (v : ServedValue C G) (backend : Member) (load : ℕ) (r : Result (Unit {0}) Refusal)
     (w : ServedValue C G) : Type 0 where
   -- where it isn't refused, the identity has this load, and others have theirs
-  pub set : IfOk r (λ _. SetsLoad (load_in v.words.loads) backend load (load_in w.words.loads))
-  -- it is refused for memory alone, and each load is as it was then
-  pub refused : IfErr r (λ e. (e ≡ OutOfMemory) × ((m : Member) → load_in w.words.loads m ≡ load_in v.words.loads m))
+  pub loads : IsLoadAnswer (load_in v.words.loads) backend load r (load_in w.words.loads)
   -- view, selector and counter of tickets are as their history left them
   pub stands : After v (λ e. Stands e w)
   -- all but the loads stays

@@ -4,12 +4,13 @@ use Rattle.lb_select_base.specs.Backends.{Member}
 use Rattle.lb_select_base.specs.Memberships.{same_members}
 use Rattle.lb_select_base.specs.declared.refusal.Refusal.{Refusal}
 use Rattle.lb_select_base.specs.declared.refusal.Refusal.TheVariants.{OutOfMemory}
-use Rattle.lb_health_core.specs.Registry.{RegistryValue, IsRegistryAfter, KeepsHistory}
+use Rattle.lb_health_core.specs.Registry.{RegistryValue}
 use Rattle.lb_health_view.specs.Causes.{view_cause}
-use Rattle.lb_health_view.specs.RegistrySide.{after_settings, registry_updated, view_updated, with_membership}
+use Rattle.lb_health_view.specs.RegistrySide.{after_settings, with_membership}
 use Rattle.lb_health_view.specs.Snapshots.{ViewValue}
+use Rattle.lb_health_view.specs.Updates.{IsViewUpdated}
 use Rattle.lb_health_view.specs.ViewEvents.{ViewEvent, Set, membership_after}
-use Rattle.lb_health_view.specs.Views.{HoldsOfBoth, IsViewAfter, IsViewRefusal}
+use Rattle.lb_health_view.specs.Views.{HoldsOfBoth, IsViewAfter}
 
 -- a view, and its newest membership, of which the served selector is built with this configuration
 pub record ServedViewValue (C : Type 0) : Type 0 where
@@ -50,21 +51,12 @@ IsLeastCause gives v x members r =
 -- are as before, and the answer is the least cause.
 pub record IsRenewed {C R : Type 0} (gives : R → Member → Member → Type 0) (given : List Member) (settings : List (Member × Bool))
     (s : ServedViewValue C) (x : RegistryValue R) (r : Result Bool Refusal) (t : ServedViewValue C) (y : RegistryValue R) : Type 0 where
-  pub updated : OnOk r (HoldsOfBoth gives s.view x
-      (λ key_of views events. IsViewAfter (view_updated key_of s.view.id given settings events views) t.view))
-  pub registry : OnOk r (HoldsOfBoth gives s.view x
-      (λ key_of views events. IsRegistryAfter gives key_of (registry_updated key_of s.view.id given views events) y))
-  pub took : OnOk r (Takes given settings s t)
+  pub updated : IsViewUpdated gives given settings s.view x r t.view y
   pub taken : OnOk r (TakesIn given settings s t)
   pub renewed : IfOk r (λ renewed. renewed ≡ not (same_members given s.members))
   pub members : OnOk r (same_members given s.members ≡ false → t.members ≡ given)
   pub free : OnOk r (same_members given s.members ≡ false
       → HoldsOfBoth gives s.view x (λ key_of views events. view_cause key_of s.view.id given events views ≡ None))
-  pub view_err : OnErr r ((views : List ViewEvent) → IsViewAfter views s.view → IsViewAfter views t.view)
-  pub registry_err : OnErr r (KeepsHistory gives x y)
   pub members_err : OnErr r (t.members ≡ s.members)
-  pub refused : OnErr r (IsViewRefusal r)
   pub least : IfErr r (IsLeastCause gives s.view x given)
   pub config : t.config ≡ s.config
-  pub id : t.view.id ≡ s.view.id
-  pub one_registry : y.id ≡ x.id

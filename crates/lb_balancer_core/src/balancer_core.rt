@@ -9,8 +9,8 @@ ghost use Rattle.lb_health_core.specs.Registry.{IsRegistryAfter, HoldsOf, Grows}
 ghost use Rattle.lb_health_core.specs.RegistryEvents.{Marked, registered_after};
 ghost use Rattle.lb_health_view.specs.ViewEvents.{generation_after};
 ghost use Rattle.lb_rebuild_core.specs.GroupCalls.{AcceptsBy, IsMade};
-ghost use Rattle.lb_balancer_core.specs.Choices.{Chooses};
-ghost use Rattle.lb_balancer_core.specs.Balancer.{After, Drew, Judges, Stands, view_events};
+ghost use Rattle.lb_balancer_core.specs.Choices.{IsChosen};
+ghost use Rattle.lb_balancer_core.specs.Balancer.{Judges, Stands, view_events};
 ghost use Rattle.lb_balancer_core.specs.BalancerUpdates.{IsUpdated, IsRefusal};
 ghost use Rattle.lb_balancer_core.specs.ServedUpdates.{IsLoadSet, KeepsServed};
 ghost use Rattle.lb_balancer_core.specs.Texts.{IsOfTextsIn, IsTextsRefusal, one_more};
@@ -176,10 +176,9 @@ impl<S: BackendSelection, G: Rng + Drop, D: ServiceDiscovery + Drop> LoadBalance
         key: &[u8],
         max_iterations: usize,
     ) -> Result<Option<Backend>, Refusal>
-        ensures answers { Chooses R.gives ⟦<CoreWords<G> as WordSource>⟧.gives S.walks
+        ensures chosen { IsChosen R.gives ⟦<CoreWords<G> as WordSource>⟧.gives S.walks
             Judges registry.now self.old.served key.now max_iterations result self.new.served }
-        ensures stands { After self.old.served (λ e. Stands (Drew self.new.served.words.tickets ∷ e) self.new.served) }
-        ensures kept { self.new ≡ record self.old { served = record self.old.served { words = self.new.served.words } } }
+        ensures kept { self.new ≡ record self.old { served = self.new.served } }
     {
         self.served.select(alloc, registry, key, max_iterations)
     }
@@ -196,11 +195,10 @@ impl<S: BackendSelection, G: Rng + Drop, D: ServiceDiscovery + Drop> LoadBalance
         accept: &F,
     ) -> Result<Option<Backend>, Refusal>
         requires { F.IsAlwaysCallable accept.now }
-        ensures answers { Chooses R.gives ⟦<CoreWords<G> as WordSource>⟧.gives S.walks
+        ensures chosen { IsChosen R.gives ⟦<CoreWords<G> as WordSource>⟧.gives S.walks
             (λ key_of events e. AcceptsBy F.Fn accept.now (Judges key_of events e))
             registry.now self.old.served key.now max_iterations result self.new.served }
-        ensures stands { After self.old.served (λ e. Stands (Drew self.new.served.words.tickets ∷ e) self.new.served) }
-        ensures kept { self.new ≡ record self.old { served = record self.old.served { words = self.new.served.words } } }
+        ensures kept { self.new ≡ record self.old { served = self.new.served } }
     {
         self.served
             .select_with(alloc, registry, key, max_iterations, accept)

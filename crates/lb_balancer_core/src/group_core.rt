@@ -2,14 +2,14 @@
 ghost use Rattle.std.specs.Prelude.{◌≡◌, ◌↔◌, ◌<◌, ◌≤◌, ◌+◌, ◌∷◌, [], ℕ, length, map, Ok, Err, Some, None};
 ghost use Rattle.std.specs.Prelude.{IfOk, IfErr, IsTrue, OnErr};
 ghost use Rattle.lb_select_base.specs.Backends.{Member};
-ghost use Rattle.lb_select_base.specs.Loads.{SetsLoad, load_in};
+ghost use Rattle.lb_select_base.specs.Loads.{IsLoadAnswer, load_in};
 ghost use Rattle.lb_select_base.specs.Refusals.{least};
-ghost use Rattle.lb_rebuild_core.specs.SlotsCalls.{SelectsIn, at_slot};
+ghost use Rattle.lb_rebuild_core.specs.SlotsCalls.{at_slot};
 ghost use Rattle.lb_rebuild_core.specs.SlotsHistory.{newest, past_of, served, coalesced, failed, timing as timing_after};
 ghost use Rattle.lb_rebuild_core.specs.SlotsHistory.{Cancelled, is_cancelled};
-ghost use Rattle.lb_health_core.specs.Registry.{HoldsOf, Grows, KeepsHistory};
+ghost use Rattle.lb_health_core.specs.Registry.{Grows, KeepsHistory};
 ghost use Rattle.lb_health_core.specs.RegistryEvents.{Marked};
-ghost use Rattle.lb_rebuild_core.specs.GroupCalls.{AcceptsBy, IsGroupMade, IsMade, Judges, after_select, served_at};
+ghost use Rattle.lb_rebuild_core.specs.GroupCalls.{AcceptsBy, IsGroupMade, IsMade, IsSelected, served_at};
 ghost use Rattle.lb_rebuild_core.specs.GroupHistory.{in_group, slot_events};
 ghost use Rattle.lb_rebuild_core.specs.GroupStates.{After, Becomes, SameSite, Stands};
 ghost use Rattle.lb_balancer_core.specs.GroupUpdates.{IsGroupUpdated, IsGroupRefusal};
@@ -143,12 +143,9 @@ impl<S: BackendSelection, D: ServiceDiscovery + Drop> LoadBalancerGroupCore<S, D
         random: &[u64],
     ) -> Selection
         requires registry { registry.now.id ≡ self.old.group.registry }
-        ensures answers { HoldsOf R.gives registry.now (λ key_of events. After self.old.group
-            (λ made e. SelectsIn S.may_draw_random S.walks (Judges key_of events made e (served_at slot e)) (load_in self.old.loads) made
-            (slot_events e) slot key.now max_iterations random.now result)) }
-        ensures stands { After self.old.group (λ made e. Stands made (after_select made slot result e) self.new.group) }
+        ensures selected { IsSelected R.gives S.may_draw_random S.walks (λ right. right) (load_in self.old.loads) self.old.group
+            registry.now slot key.now max_iterations random.now result self.new.group }
         ensures kept { self.new ≡ record self.old { group = self.new.group } }
-        ensures site { SameSite self.old.group self.new.group }
     {
         self.group.select(
             alloc,
@@ -176,12 +173,9 @@ impl<S: BackendSelection, D: ServiceDiscovery + Drop> LoadBalancerGroupCore<S, D
     ) -> Selection
         requires accept { F.IsAlwaysCallable accept.now }
         requires registry { registry.now.id ≡ self.old.group.registry }
-        ensures answers { HoldsOf R.gives registry.now (λ key_of events. After self.old.group
-            (λ made e. SelectsIn S.may_draw_random S.walks (AcceptsBy F.Fn accept.now (Judges key_of events made e (served_at slot e)))
-            (load_in self.old.loads) made (slot_events e) slot key.now max_iterations random.now result)) }
-        ensures stands { After self.old.group (λ made e. Stands made (after_select made slot result e) self.new.group) }
+        ensures selected { IsSelected R.gives S.may_draw_random S.walks (AcceptsBy F.Fn accept.now) (load_in self.old.loads)
+            self.old.group registry.now slot key.now max_iterations random.now result self.new.group }
         ensures kept { self.new ≡ record self.old { group = self.new.group } }
-        ensures site { SameSite self.old.group self.new.group }
     {
         self.group.select_with(
             alloc,
@@ -199,9 +193,7 @@ impl<S: BackendSelection, D: ServiceDiscovery + Drop> LoadBalancerGroupCore<S, D
     ///
     /// Refused for memory alone, and then nothing is set.
     pub fn set_load(&mut self, alloc: Global, backend: &Backend, load: u64) -> Result<(), Refusal>
-        ensures set { IfOk result (λ _. SetsLoad (load_in self.old.loads) backend.now load (load_in self.new.loads)) }
-        ensures refused { IfErr result (λ r. (r ≡ Refusal.OutOfMemory)
-            × ((m : Member) → load_in self.new.loads m ≡ load_in self.old.loads m)) }
+        ensures loads { IsLoadAnswer (load_in self.old.loads) backend.now load result (load_in self.new.loads) }
         ensures kept { self.new ≡ record self.old { loads = self.new.loads } }
     {
         self.loads.set(alloc, backend, load)

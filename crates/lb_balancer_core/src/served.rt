@@ -12,8 +12,8 @@ ghost use Rattle.lb_health_view.specs.Views.{HoldsOfBoth};
 ghost use Rattle.lb_health_view.specs.RegistrySide.{registry_updated, settings_of};
 ghost use Rattle.lb_health_view.specs.ViewEvents.{generation_after};
 ghost use Rattle.lb_rebuild_core.specs.GroupCalls.{AcceptsBy, IsMade};
-ghost use Rattle.lb_balancer_core.specs.Choices.{Chooses};
-ghost use Rattle.lb_balancer_core.specs.Balancer.{After, Drew, History, IsJudged, Judges, Set, Stands, members_now, update_cause};
+ghost use Rattle.lb_balancer_core.specs.Choices.{IsChosen};
+ghost use Rattle.lb_balancer_core.specs.Balancer.{After, History, IsJudged, Judges, Set, Stands, members_now, update_cause};
 ghost use Rattle.lb_balancer_core.specs.Balancer.{updated, view_events};
 ghost use Rattle.lb_health_view.specs.Causes.{view_cause};
 ghost use Rattle.lb_balancer_core.specs.ServedUpdates.{IsLoadSet, KeepsServed};
@@ -263,11 +263,9 @@ impl<S: BackendSelection, G: Rng + Drop> Served<S, G> {
         accept: &F,
     ) -> Result<Option<Backend>, Refusal>
         requires { F.IsAlwaysCallable accept.now }
-        ensures answers { Chooses R.gives ⟦<CoreWords<G> as WordSource>⟧.gives S.walks
+        ensures { IsChosen R.gives ⟦<CoreWords<G> as WordSource>⟧.gives S.walks
             (λ key_of events e. AcceptsBy F.Fn accept.now (Judges key_of events e))
             registry.now self.old key.now max_iterations result self.new }
-        ensures stands { After self.old (λ e. Stands (Drew self.new.words.tickets ∷ e) self.new) }
-        ensures kept { self.new ≡ record self.old { words = self.new.words } }
     {
         let served = &self.served;
         let judged = |backend: &Backend| -> bool
@@ -292,10 +290,8 @@ impl<S: BackendSelection, G: Rng + Drop> Served<S, G> {
         key: &[u8],
         max_iterations: usize,
     ) -> Result<Option<Backend>, Refusal>
-        ensures answers { Chooses R.gives ⟦<CoreWords<G> as WordSource>⟧.gives S.walks
+        ensures { IsChosen R.gives ⟦<CoreWords<G> as WordSource>⟧.gives S.walks
             Judges registry.now self.old key.now max_iterations result self.new }
-        ensures stands { After self.old (λ e. Stands (Drew self.new.words.tickets ∷ e) self.new) }
-        ensures kept { self.new ≡ record self.old { words = self.new.words } }
     {
         self.select_with(alloc, registry, key, max_iterations, &ready_ones)
     }

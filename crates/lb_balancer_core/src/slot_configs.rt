@@ -1,11 +1,10 @@
 //! The configurations of a group's slots, as they are given: why they make no group, and what its selectors are built with.
-ghost use Rattle.std.specs.Prelude.{◌≡◌, [], map, unwrap_or, IfErr, IfOk};
-ghost use Rattle.lb_select_base.specs.Refusals.{least, memory_apart as apart};
+ghost use Rattle.std.specs.Prelude.{◌≡◌, [], map, IfErr, IfOk};
+ghost use Rattle.lb_select_base.specs.Refusals.{least};
 ghost use Rattle.lb_balancer_core.specs.SlotConfigs.{slot_configs};
 
 use crate::configured::SlotConfig;
-use lb_select_base::backend::Backend;
-use lb_select_base::causes::{earlier, memory_apart};
+use lb_select_base::causes::{earlier, refusal_over};
 use lb_select_base::refusal::Refusal;
 use lb_select_base::walk::BackendSelection;
 use std::alloc::Global;
@@ -24,27 +23,9 @@ pub fn least_cause<S: BackendSelection>(
     let empty = BTreeSet::new(alloc);
     let mut found = None;
     for config in configs {
-        found = earlier(found, cause_over::<S>(alloc, &empty, config));
+        found = earlier(found, refusal_over::<S>(alloc, &empty, config.as_ref()));
     }
     found
-}
-
-// Why there is no selector over this set, memory apart.
-fn cause_over<S: BackendSelection>(
-    alloc: Global,
-    backends: &BTreeSet<Backend>,
-    config: &Option<S::Config>,
-) -> Option<Refusal>
-    ensures { result ≡ apart (S.refusal backends.now.keys (unwrap_or config.now S.default_config)) }
-{
-    let built = match config {
-        Some(config) => S::build_with_config(alloc, backends, config),
-        None => S::build(alloc, backends),
-    };
-    match built {
-        Ok(_) => None,
-        Err(refusal) => memory_apart(refusal),
-    }
 }
 
 /// Returns the configurations of a group's slots. Refused `OutOfMemory` where memory is refused.

@@ -7,7 +7,7 @@ ghost use Rattle.lb_rebuild_core.specs.GroupCalls.{IsMakingRefusal};
 ghost use Rattle.lb_health_view.specs.Discoveries.{FoundBy};
 ghost use Rattle.lb_balancer_core.specs.Looks.{Answers};
 ghost use Rattle.lb_threads_core.specs.Registry.{SeenIn, UnderRegistry};
-ghost use Rattle.lb_threads_core.specs.View.{HasRegistered, IsFull, IsMadeWithView};
+ghost use Rattle.lb_threads_core.specs.View.{HasNumber, HasRegistered, IsFull, IsMadeWithView};
 ghost use Rattle.lb_threads_group.specs.Group.{UpdatedUnder};
 ghost use Rattle.lb_threads_group.specs.Kept.{SelectedFrom};
 ghost use Rattle.lb_balancer_core.specs.SlotConfigs.{slot_configs};
@@ -166,6 +166,9 @@ impl<
         ensures exhausted { result ≡ Err (GateRefusal.NotMade Refusal.NumbersExhausted)
             → least (map (S.refusal []) self.old.configs.items) ≡ None
             → SeenIn R.gives (arc_value self.old.registry).start (IsFull R.gives) }
+        ensures left { result ≡ Err (GateRefusal.NotMade Refusal.OutOfMemory)
+            → least (map (S.refusal []) self.old.configs.items) ≡ None
+            → SeenIn R.gives (arc_value self.old.registry).start (HasNumber R.gives) }
         ensures parts { (self.new.discovery ≡ self.old.discovery) × (self.new.owns_checks ≡ self.old.owns_checks)
             × (self.new.registry ≡ self.old.registry) × (self.new.configs ≡ self.old.configs) }
         ensures settings { (self.new.health_check_frequency ≡ self.old.health_check_frequency)

@@ -5,7 +5,7 @@ ghost use Rattle.lb_select_base.specs.Refusals.{least};
 ghost use Rattle.lb_rebuild_core.specs.GroupCalls.{IsMakingRefusal};
 ghost use Rattle.lb_balancer_core.specs.SlotConfigs.{slot_configs};
 ghost use Rattle.lb_threads_core.specs.Registry.{SeenIn};
-ghost use Rattle.lb_threads_core.specs.View.{IsFull, IsMadeWithView};
+ghost use Rattle.lb_threads_core.specs.View.{HasNumber, IsFull, IsMadeWithView};
 ghost use Rattle.lb_balancer_group.specs.Made.{IsNewGroup};
 
 use lb_balancer_core::configured::{Configured, SlotConfig};
@@ -82,6 +82,7 @@ pub(crate) fn first_cause<S: BackendSelection, R: KeyRule + Drop, C: HealthCheck
     ensures none { IfNone result (least (map (S.refusal []) (slot_configs S.default_config configs.now)) ≡ None) }
     ensures exhausted { IfSome result (λ e. least (map (S.refusal []) (slot_configs S.default_config configs.now)) ≡ None
         → SeenIn R.gives registry.now.start (IsFull R.gives)) }
+    ensures left { IfNone result (SeenIn R.gives registry.now.start (HasNumber R.gives)) }
 {
     match least_cause::<S>(alloc, configs) {
         Some(refusal) => Some(refusal),
@@ -113,7 +114,8 @@ pub(crate) fn own_gate(alloc: Global) -> Result<Arc<SelectorRebuildGate>, Refusa
     Ok(Arc::new(alloc, gate)?)
 }
 
-// A new group over this gate, with a view of its own in the registry.
+// A new group over this gate, with a view of its own in the registry. Where no number is left for a view, that is the refusal, before one
+// for memory.
 pub(crate) fn opened<S: BackendSelection, R: KeyRule + Drop, C: HealthCheck + Drop, W: Wait>(
     rt: &W,
     alloc: Global,
@@ -129,7 +131,11 @@ pub(crate) fn opened<S: BackendSelection, R: KeyRule + Drop, C: HealthCheck + Dr
     ensures view { IsMadeWithView R.gives (arc_value registry.now).start None result (λ g. (arc_value g.0).core.view.id) }
     ensures refused { IfErr result (λ e. (e ≡ Refusal.OutOfMemory) ⊎ (e ≡ Refusal.NumbersExhausted)) }
 {
-    let copies = copies_of(alloc, configs)?;
+    let copies = match copies_of(alloc, configs) {
+        Ok(copies) => copies,
+        Err(_) if registry.is_full(rt) => return Err(Refusal::NumbersExhausted),
+        Err(_) => return Err(Refusal::OutOfMemory),
+    };
     let core: GroupCore<Configured<S>> = make(rt, alloc, &**registry, &*gate, copies)?;
     share(rt, alloc, core, registry, gate)
 }

@@ -5,3 +5,4 @@ pub mod OwnCellLemmas
 pub mod SnapshotLemmas
 pub mod ViewLemmas
 pub mod PassLemmas
+pub mod UpdateLemmas

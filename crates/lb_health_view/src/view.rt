@@ -1,7 +1,8 @@
 //! The view of a registry: a membership in numbered generations, the snapshots that live, and the flags of their backends. Contracts
 //! describe it by the list of its events, newest first.
-ghost use Rattle.std.specs.Prelude.{◌≡◌, ◌≢◌, ◌⊎◌, ◌+◌, ◌<◌, ◌^◌, ◌∷◌, [], All, IfOk, IsOk, OnOk, OnErr, unwrap_or};
-ghost use Rattle.std.specs.Prelude.{IsErrOf, IsSome, IsTrue, MatchOption, Err, List, ℕ, true, false, ◌↔◌, ◌≤◌};
+ghost use Rattle.std.specs.Prelude.{◌≡◌, ◌⊎◌, ◌+◌, ◌<◌, ◌^◌, ◌∷◌, [], All, IfOk, OnOk, OnErr, unwrap_or};
+ghost use Rattle.std.specs.Prelude.{IsSome, IsTrue, MatchOption, Err, List, ℕ, true, false, ◌↔◌, ◌≤◌};
+ghost use Rattle.std.specs.Result.{result_map_both};
 ghost use Rattle.std.specs.List.{list_any, list_all};
 ghost use Rattle.std.specs.Arc.{arc_value};
 ghost use Rattle.std.specs.Fn.{FnOnceReturnsAt};
@@ -13,13 +14,13 @@ ghost use Rattle.lb_health_view.specs.Causes.{IsRegistryRefusal, view_cause};
 ghost use Rattle.lb_health_view.specs.Snapshots.{held_less, at_generation, living, flags_listed, value_at, snapshot_of, IfHead};
 ghost use Rattle.lb_health_view.specs.ViewEvents.{ViewEvent, Shown, Held, Released, Set, generation_after, membership_after, listed};
 ghost use Rattle.lb_health_view.specs.ViewEvents.{flag_after};
-ghost use Rattle.lb_health_view.specs.Views.{IsViewAfter, Flags, IsViewRefusal, HoldsOfBoth};
-ghost use Rattle.lb_health_view.specs.RegistrySide.{lives, registry_released, settings_of, after_settings, with_membership, view_changed};
-ghost use Rattle.lb_health_view.specs.RegistrySide.{registry_changed};
-ghost use Rattle.lb_health_view.specs.RegistrySide.{view_updated, registry_updated, IsHealthyIn, IsReadyIn, IsReady};
-ghost use Rattle.lb_health_core.specs.Registry.{HasOwnCells, IsRegistryAfter, IsGrowthRefusal, HoldsOf, Grows, KeepsHistory};
-ghost use Rattle.lb_health_core.specs.RegistryEvents.{Registered, Updated, Applied, registered_after, has_view, views_after};
-ghost use Rattle.lb_health_core.specs.RegistryEvents.{cells_given};
+ghost use Rattle.lb_health_view.specs.Updates.{IsViewUpdated, ViewRefuses};
+ghost use Rattle.lb_health_view.specs.Views.{IsViewAfter, Flags, HoldsOfBoth};
+ghost use Rattle.lb_health_view.specs.RegistrySide.{lives, registry_released, settings_of, after_settings, view_changed, registry_changed};
+ghost use Rattle.lb_health_view.specs.RegistrySide.{IsHealthyIn, IsReadyIn, IsReady};
+ghost use Rattle.lb_health_core.specs.Registry.{HasOwnCells, IsRegistryAfter, IsGrowthRefusal, HoldsOf};
+ghost use Rattle.lb_health_core.specs.RegistryCalls.{IsRegistered};
+ghost use Rattle.lb_health_core.specs.RegistryEvents.{Updated, Applied, has_view, views_after, cells_given};
 
 use crate::cells::Cells;
 use crate::snapshot::{ViewSnapshot, have_room, is_among, lists, place_of};
@@ -104,11 +105,7 @@ impl ViewCore {
         registry: &mut Registry<R>,
     ) -> Result<ViewCore, Refusal>
         ensures made { IfOk result (λ v. IsViewAfter [] v) }
-        ensures id { IfOk result (λ v. HoldsOf R.gives registry.old (λ key_of events. v.id ≡ registered_after events + 1)) }
-        ensures registry { OnOk result (Grows R.gives registry.old (λ events. Applied ∷ Registered ∷ events) registry.new) }
-        ensures err { OnErr result (KeepsHistory R.gives registry.old registry.new) }
-        ensures exhausted { HoldsOf R.gives registry.old (λ key_of events. IsErrOf result Refusal.NumbersExhausted
-            ↔ (2 ^ 64 ≤ registered_after events + 1)) }
+        ensures registered { IsRegistered R.gives registry.old (result_map_both (λ v. v.id) (λ refusal. refusal) result) registry.new }
         ensures refused { OnErr result (IsGrowthRefusal result) }
         ensures one_registry { registry.new.id ≡ registry.old.id }
     {
@@ -369,12 +366,8 @@ impl ViewCore {
         changed: F,
     ) -> Result<Option<T>, Refusal>
         requires { F.IsAlwaysCallable changed }
-        ensures view { OnOk result (HoldsOfBoth R.gives self.old registry.old (λ key_of views events. IsViewAfter
-            (view_updated key_of self.old.id discovered.keys (settings_of settings.entries) events views) self.new)) }
-        ensures registry { OnOk result (HoldsOfBoth R.gives self.old registry.old (λ key_of views events. IsRegistryAfter R.gives key_of
-            (registry_updated key_of self.old.id discovered.keys views events) registry.new)) }
-        ensures some { OnOk result ((cells : List (Member × ℕ)) × ((views : List ViewEvent) → IsViewAfter views self.old
-            → IsViewAfter (after_settings (settings_of settings.entries) (with_membership discovered.keys cells views)) self.new)) }
+        ensures updated { IsViewUpdated R.gives discovered.keys (settings_of settings.entries) self.old registry.old result self.new
+            registry.new }
         ensures called { IfOk result (λ answer. (views : List ViewEvent) → IsViewAfter views self.old
             → MatchOption answer (same_members discovered.keys (membership_after views) ≡ true)
             (λ t. (same_members discovered.keys (membership_after views) ≡ false)
@@ -382,30 +375,6 @@ impl ViewCore {
         ensures told { IfOk result (λ answer. MatchOption answer (self.new.generation ≡ self.old.generation)
             (λ t. (self.new.generation ≡ self.old.generation + 1) × IfHead self.new.snapshots (λ s. (set : BTreeSet Member Global)
             × (set.keys ≡ s.members) × FnOnceReturnsAt F.FnOnce changed set t))) }
-        ensures view_err { OnErr result ((views : List ViewEvent) → IsViewAfter views self.old → IsViewAfter views self.new) }
-        ensures registry_err { OnErr result (KeepsHistory R.gives registry.old registry.new) }
-        ensures same { (views : List ViewEvent) → IsViewAfter views self.old
-            → same_members discovered.keys (membership_after views) ≡ true → IsOk result }
-        ensures exhausted { (views : List ViewEvent) → IsViewAfter views self.old
-            → same_members discovered.keys (membership_after views) ≡ false → generation_after views + 1 ≡ 2 ^ 64
-            → result ≡ Err Refusal.GenerationsExhausted }
-        ensures last { IsErrOf result Refusal.GenerationsExhausted → (views : List ViewEvent) → IsViewAfter views self.old
-            → generation_after views + 1 ≡ 2 ^ 64 }
-        ensures missing { HoldsOfBoth R.gives self.old registry.old (λ key_of views events. same_members discovered.keys
-            (membership_after views) ≡ false → generation_after views + 1 ≢ 2 ^ 64 → has_view self.old.id (views_after events) ≡ false
-            → result ≡ Err Refusal.NoSuch) }
-        ensures unknown { IsErrOf result Refusal.NoSuch
-            → HoldsOf R.gives registry.old (λ key_of events. has_view self.old.id (views_after events) ≡ false) }
-        ensures numbers { IsErrOf result Refusal.NumbersExhausted
-            → HoldsOf R.gives registry.old (λ key_of events. 2 ^ 64
-            ≤ cells_given key_of (Updated self.old.id discovered.keys ∷ Applied ∷ events)) }
-        ensures lacking { HoldsOfBoth R.gives self.old registry.old (λ key_of views events. same_members discovered.keys
-            (membership_after views) ≡ false → generation_after views + 1 ≢ 2 ^ 64 → has_view self.old.id (views_after events) ≡ true
-            → 2 ^ 64 ≤ cells_given key_of (Updated self.old.id discovered.keys ∷ Applied ∷ events)
-            → result ≡ Err Refusal.NumbersExhausted) }
-        ensures refused { OnErr result (IsViewRefusal result) }
-        ensures id { self.new.id ≡ self.old.id }
-        ensures one_registry { registry.new.id ≡ registry.old.id }
     {
         if self.is_membership(&discovered) {
             self.set_members(alloc, settings);
@@ -432,23 +401,7 @@ impl ViewCore {
         ensures some { OnOk result ((cells : List (Member × ℕ)) × ((views : List ViewEvent) → IsViewAfter views self.old
             → IsViewAfter (Shown members.keys cells ∷ views) self.new)) }
         ensures next { OnOk result (self.new.generation ≡ self.old.generation + 1) }
-        ensures view_err { OnErr result ((views : List ViewEvent) → IsViewAfter views self.old → IsViewAfter views self.new) }
-        ensures registry_err { OnErr result (KeepsHistory R.gives registry.old registry.new) }
-        ensures exhausted { self.old.generation + 1 ≡ 2 ^ 64 → result ≡ Err Refusal.GenerationsExhausted }
-        ensures last { IsErrOf result Refusal.GenerationsExhausted → self.old.generation + 1 ≡ 2 ^ 64 }
-        ensures missing { HoldsOf R.gives registry.old (λ key_of events. self.old.generation + 1 ≢ 2 ^ 64
-            → has_view self.old.id (views_after events) ≡ false → result ≡ Err Refusal.NoSuch) }
-        ensures unknown { IsErrOf result Refusal.NoSuch
-            → HoldsOf R.gives registry.old (λ key_of events. has_view self.old.id (views_after events) ≡ false) }
-        ensures numbers { IsErrOf result Refusal.NumbersExhausted
-            → HoldsOf R.gives registry.old (λ key_of events. 2 ^ 64
-            ≤ cells_given key_of (Updated self.old.id members.keys ∷ Applied ∷ events)) }
-        ensures lacking { HoldsOf R.gives registry.old (λ key_of events. self.old.generation + 1 ≢ 2 ^ 64
-            → has_view self.old.id (views_after events) ≡ true
-            → 2 ^ 64 ≤ cells_given key_of (Updated self.old.id members.keys ∷ Applied ∷ events) → result ≡ Err Refusal.NumbersExhausted) }
-        ensures refused { OnErr result (IsViewRefusal result) }
-        ensures id { self.new.id ≡ self.old.id }
-        ensures one_registry { registry.new.id ≡ registry.old.id }
+        ensures refusals { ViewRefuses R.gives (λ Holds. Holds) members.keys self.old registry.old result self.new registry.new }
     {
         let last = self.current.generation;
         let Some(next) = last.checked_add(1) else {

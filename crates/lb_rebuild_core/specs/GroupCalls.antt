@@ -1,12 +1,13 @@
 -- What the calls of a joined group promise: one record for each call, which the layers above cite.
-use Rattle.std.specs.Prelude.{◌≡◌, ◌⊎◌, ◌↔◌, ◌+◌, ◌^◌, ◌≤◌, ℕ, Bool, true, false, IsTrue, List, [], ◌∷◌, ◌++◌, Option, Some, None}
+use Rattle.std.specs.Prelude.{◌≡◌, ◌⊎◌, ◌↔◌, ◌+◌, ◌^◌, ◌≤◌, ℕ, Bool, true, IsTrue, List, [], ◌∷◌, ◌++◌, Option, Some, None}
 use Rattle.std.specs.Prelude.{Result, Ok, Err, IfOk, IsErrOf, OnErr, OnOk, if◌then◌else◌}
 use Rattle.std.specs.Borrow.{Bor}
 use Rattle.std.specs.Fn.{Shared, FnReturns}
 use Rattle.lb_select_base.specs.Backends.{Member}
+use Rattle.lb_select_base.specs.Draws.{Draw}
 use Rattle.lb_select_base.specs.Refusals.{memory_apart}
 use Rattle.lb_select_base.specs.declared.refusal.Refusal.{Refusal}
-use Rattle.lb_select_base.specs.declared.refusal.Refusal.TheVariants.{OutOfMemory, NumbersExhausted, NoSuch}
+use Rattle.lb_select_base.specs.declared.refusal.Refusal.TheVariants.{OutOfMemory, NumbersExhausted}
 use Rattle.lb_rebuild_core.specs.Gate.{GateId, GateValue}
 use Rattle.lb_rebuild_core.specs.SlotsCalls as slots
 use Rattle.lb_rebuild_core.specs.SlotsHistory as core
@@ -20,11 +21,12 @@ use Rattle.lb_rebuild_core.specs.declared.membership.Scheduled.{Scheduled}
 use Rattle.lb_health_view.specs.Causes.{IsRegistryRefusal}
 use Rattle.lb_health_view.specs.RegistrySide.{registry_released, registry_updated, IsReady}
 use Rattle.lb_health_view.specs.Snapshots.{ViewValue}
+use Rattle.lb_health_view.specs.Updates.{RegistryRefuses}
 use Rattle.lb_health_view.specs.ViewEvents.{ViewEvent}
 use Rattle.lb_health_view.specs.Views.{HoldsOfBoth}
 use Rattle.lb_health_core.specs.Registry.{RegistryValue, IsRegistryAfter, HoldsOf, Grows, KeepsHistory}
 use Rattle.lb_health_core.specs.RegistryEvents as registry
-use Rattle.lb_health_core.specs.RegistryEvents.{Applied, Registered, Updated, Marked, cells_given, has_view, registered_after, views_after}
+use Rattle.lb_health_core.specs.RegistryEvents.{Applied, Registered, Marked, registered_after}
 use Rattle.lb_rebuild_core.specs.GroupHistory.{History, Shown, slot_events, in_group, after_settings}
 use Rattle.lb_rebuild_core.specs.GroupStates.{GroupValue, Stands, After, Becomes, SameSite, views_of}
 
@@ -82,6 +84,11 @@ abbrev pub after_schedule :
 after_schedule key_of id members settings now events e =
     after_settings settings (with_membership members (registry.shown_cells key_of id members events) now e)
 
+-- what holds where these members are another membership that the group itself doesn't refuse
+abbrev pub IfOpen : {C : Type 0} → List Member → GroupValue C → Type 0 → Type 0
+IfOpen members v Holds =
+    After v (λ made e. slots.schedule_refusal members (slot_events e) ≡ None → slots.is_change members (slot_events e) ≡ true → Holds)
+
 -- A joined group was given a membership with its settings at a moment, and answered r: what it was before (v) and is after (w), and what
 -- its registry was before (x) and is after (y).
 pub record IsScheduled {C R : Type 0} (gives : R → Member → Member → Type 0) (v : GroupValue C) (x : RegistryValue R)
@@ -101,18 +108,8 @@ pub record IsScheduled {C R : Type 0} (gives : R → Member → Member → Type 
   pub err : OnErr r (After v (λ made e. Stands made e w))
   -- where it is refused, the registry is as before
   pub registry_err : OnErr r (KeepsHistory gives x y)
-  -- it is refused for the want of a view only where the registry has no such view
-  pub unknown : IsErrOf r NoSuch → HoldsOf gives x (λ key_of events. has_view v.view.id (views_after events) ≡ false)
-  -- it is refused for the want of numbers only where too few are left for its cells
-  pub numbers : IsErrOf r NumbersExhausted
-      → HoldsOf gives x (λ key_of events. 2 ^ 64 ≤ cells_given key_of (Updated v.view.id members ∷ Applied ∷ events))
-  -- another membership that the group itself doesn't refuse is refused for the want of a view where the registry has no such view
-  pub missing : HoldsOf gives x (λ key_of events. After v (λ made e. slots.schedule_refusal members (slot_events e) ≡ None
-      → slots.is_change members (slot_events e) ≡ true → has_view v.view.id (views_after events) ≡ false → r ≡ Err NoSuch))
-  -- and for the want of numbers where it has the view and too few are left
-  pub lacking : HoldsOf gives x (λ key_of events. After v (λ made e. slots.schedule_refusal members (slot_events e) ≡ None
-      → slots.is_change members (slot_events e) ≡ true → has_view v.view.id (views_after events) ≡ true
-      → 2 ^ 64 ≤ cells_given key_of (Updated v.view.id members ∷ Applied ∷ events) → r ≡ Err NumbersExhausted))
+  -- for these causes the registry refuses another membership that the group itself doesn't refuse
+  pub refusals : RegistryRefuses gives (IsErrOf r) (IfOpen members v) members v.view x
   -- gate, configurations and view stay
   pub site : SameSite v w
   -- it is the same registry
@@ -304,3 +301,17 @@ pub record AcceptsBy {F B : Type 0} (g : Shared F (Bor B × (Bool × Unit {0})) 
 -- a selection moves the counter of its slot
 abbrev pub after_select : {C : Type 0} → Made C → ℕ → Selection → History → History
 after_select made slot s e = in_group (slots.select_events made slot s) ++ e
+
+-- A slot selected for a key by these loads and given random words, and answered s: what the group was before (v) and is after (w), and
+-- what its registry is (x). `accepts` takes what is right of a backend to what may be answered of it.
+pub record IsSelected {C R : Type 0} (gives : R → Member → Member → Type 0) (random : List Member → C → Bool)
+    (walks : List Member → C → List ℕ → List Draw → List Member → Bool → Type 0)
+    (accepts : (Member → Bool → Type 0) → Member → Bool → Type 0) (load_by : Member → ℕ) (v : GroupValue C) (x : RegistryValue R)
+    (slot : ℕ) (key : List ℕ) (limit : ℕ) (words : List ℕ) (s : Selection) (w : GroupValue C) : Type 0 where
+  -- the answer is that of a walk over what the slot serves, each backend judged in the generation that it serves
+  pub answers : HoldsOf gives x (λ key_of events. After v (λ made e. slots.SelectsIn random walks
+      (accepts (Judges key_of events made e (served_at slot e))) load_by made (slot_events e) slot key limit words s))
+  -- the counter of the slot moves on
+  pub stands : After v (λ made e. Stands made (after_select made slot s e) w)
+  -- gate, configurations and view stay
+  pub site : SameSite v w

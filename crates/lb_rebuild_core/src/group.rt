@@ -1,7 +1,7 @@
 //! A group joined with its view: a membership reaches both or neither, and each slot holds the snapshots that it has in use.
 //! A call tests all that it can refuse for before it changes anything; builds run elsewhere, between `ask` and `publish`.
-ghost use Rattle.std.specs.Prelude.{◌≡◌, ◌≢◌, ◌↔◌, ◌<◌, ◌≤◌, ◌+◌, ◌^◌, ◌∷◌, [], true, false, map, replicate, None, Ok, Err};
-ghost use Rattle.std.specs.Prelude.{length, IfOk, IfErr, IsTrue, OnErr, IsErrOf, slice_get};
+ghost use Rattle.std.specs.Prelude.{◌≡◌, ◌≢◌, ◌↔◌, ◌<◌, ◌+◌, ◌∷◌, [], true, map, replicate, None, Ok, Err};
+ghost use Rattle.std.specs.Prelude.{length, IfOk, IfErr, IsTrue, OnErr, slice_get};
 ghost use Rattle.std.specs.Arc.{arc_value};
 ghost use Rattle.lb_select_base.specs.Loads.{load_in};
 ghost use Rattle.lb_select_base.specs.Refusals.{least};
@@ -11,17 +11,16 @@ ghost use Rattle.lb_rebuild_core.specs.SlotsHistory.{waits as waits_after, reade
 ghost use Rattle.lb_rebuild_core.specs.SlotsHistory.{extra, flight_after, is_extra};
 ghost use Rattle.lb_rebuild_core.specs.Values.{configs_of};
 ghost use Rattle.lb_rebuild_core.specs.Stands.{Made, After as AfterGroup, counts_after};
-ghost use Rattle.lb_rebuild_core.specs.SlotsCalls.{schedule_refusal, Prepares, FitsIfThere, at_slot, SelectsIn};
+ghost use Rattle.lb_rebuild_core.specs.SlotsCalls.{schedule_refusal, Prepares, FitsIfThere, at_slot};
 ghost use Rattle.lb_health_view.specs.RegistrySide.{IsReady, settings_of};
+ghost use Rattle.lb_health_view.specs.Updates.{RegistryRefuses};
 ghost use Rattle.lb_health_view.specs.ViewEvents.{Held};
 ghost use Rattle.lb_health_view.specs.Views.{IsViewAfter};
 ghost use Rattle.lb_health_core.specs.Registry.{HoldsOf};
-ghost use Rattle.lb_health_core.specs.RegistryEvents.{Applied, Updated, views_after};
-ghost use Rattle.lb_health_core.specs.RegistryEvents.{has_view, cells_given};
-ghost use Rattle.lb_rebuild_core.specs.GroupCalls.{IsRefusedFor, served_at, Judges, IsJudged, AcceptsBy};
+ghost use Rattle.lb_rebuild_core.specs.GroupCalls.{IsRefusedFor, IsJudged, IsSelected, AcceptsBy};
 ghost use Rattle.lb_rebuild_core.specs.GroupCalls.{IsGroupMade, IsMade, IsScheduled, IsCancelled, IsAsked, IsFailed, IsPublished};
 ghost use Rattle.lb_rebuild_core.specs.GroupCalls.{IsAbandoned, IsWorkerLost, IsEntered, IsReadyFor, IsTicketDrawn, IsLeft, IsTaken};
-ghost use Rattle.lb_rebuild_core.specs.GroupCalls.{IsReported, after_select};
+ghost use Rattle.lb_rebuild_core.specs.GroupCalls.{IsReported};
 ghost use Rattle.lb_rebuild_core.specs.GroupHistory.{History, Set, slot_events, members_now};
 ghost use Rattle.lb_rebuild_core.specs.GroupStates.{Stands, IsFounded, After, Becomes, SameSite, views_of};
 
@@ -399,11 +398,8 @@ impl<S: BackendSelection> GroupCore<S> {
         loads: &Loads,
     ) -> Selection
         requires registry { registry.now.id ≡ self.old.registry }
-        ensures answers { HoldsOf R.gives registry.now (λ key_of events. After self.old (λ made e. SelectsIn S.may_draw_random S.walks
-            (Judges key_of events made e (served_at slot e)) (load_in loads.now) made
-            (slot_events e) slot key.now limit random.now result)) }
-        ensures stands { After self.old (λ made e. Stands made (after_select made slot result e) self.new) }
-        ensures site { SameSite self.old self.new }
+        ensures { IsSelected R.gives S.may_draw_random S.walks (λ right. right) (load_in loads.now) self.old registry.now slot key.now limit
+            random.now result self.new }
     {
         self.select_with(
             alloc,
@@ -433,11 +429,8 @@ impl<S: BackendSelection> GroupCore<S> {
     ) -> Selection
         requires accept { F.IsAlwaysCallable accept.now }
         requires registry { registry.now.id ≡ self.old.registry }
-        ensures answers { HoldsOf R.gives registry.now (λ key_of events. After self.old (λ made e. SelectsIn S.may_draw_random S.walks
-            (AcceptsBy F.Fn accept.now (Judges key_of events made e (served_at slot e))) (load_in loads.now) made
-            (slot_events e) slot key.now limit random.now result)) }
-        ensures stands { After self.old (λ made e. Stands made (after_select made slot result e) self.new) }
-        ensures site { SameSite self.old self.new }
+        ensures { IsSelected R.gives S.may_draw_random S.walks (AcceptsBy F.Fn accept.now) (load_in loads.now) self.old registry.now slot
+            key.now limit random.now result self.new }
     {
         let served = self.group.served(slot).unwrap_or(0);
         let view = &self.view;
@@ -564,18 +557,8 @@ fn prepared<S: BackendSelection, R: KeyRule + Drop>(
     ensures answers { IfOk result (λ p. AfterGroup group.now (λ made h. Prepares made h discovered.now.keys (Ok p))) }
     ensures fits { IfOk result (λ p. FitsIfThere group.now p) }
     ensures refused { IfErr result (λ e. AfterGroup group.now (λ made h. IsRefusedFor h discovered.now.keys e)) }
-    ensures unknown { IsErrOf result Refusal.NoSuch
-        → HoldsOf R.gives registry.now (λ key_of events. AfterGroup group.now (λ made h. has_view view.now.id (views_after events)
-        ≡ false)) }
-    ensures numbers { IsErrOf result Refusal.NumbersExhausted
-        → HoldsOf R.gives registry.now (λ key_of events. AfterGroup group.now (λ made h. 2 ^ 64
-        ≤ cells_given key_of (Updated view.now.id discovered.now.keys ∷ Applied ∷ events))) }
-    ensures missing { IfErr result (λ e. HoldsOf R.gives registry.now (λ key_of events. AfterGroup group.now
-        (λ made h. schedule_refusal discovered.now.keys h ≡ None → has_view view.now.id (views_after events) ≡ false
-        → e ≡ Refusal.NoSuch))) }
-    ensures lacking { IfErr result (λ e. HoldsOf R.gives registry.now (λ key_of events. AfterGroup group.now
-        (λ made h. schedule_refusal discovered.now.keys h ≡ None → has_view view.now.id (views_after events) ≡ true
-        → 2 ^ 64 ≤ cells_given key_of (Updated view.now.id discovered.now.keys ∷ Applied ∷ events) → e ≡ Refusal.NumbersExhausted))) }
+    ensures refusals { IfErr result (λ e. AfterGroup group.now (λ made h. RegistryRefuses R.gives (λ refusal. e ≡ refusal)
+        (λ Holds. schedule_refusal discovered.now.keys h ≡ None → Holds) discovered.now.keys view.now registry.now)) }
 {
     match group.prepare(alloc, discovered) {
         Ok(prepared) => Ok(prepared),

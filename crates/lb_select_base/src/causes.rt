@@ -1,6 +1,7 @@
 //! The least cause for which a selector of one of several configurations cannot be built, memory apart.
 //! A group asks for it before it takes memory for itself, so that a refusal for memory hides no other.
-ghost use Rattle.std.specs.Prelude.{◌≡◌, Some, [], map};
+ghost use Rattle.std.specs.Prelude.{◌≡◌, Some, [], map, unwrap_or};
+ghost use Rattle.std.specs.Option.{option_copied};
 ghost use Rattle.lb_select_base.specs.Refusals.{least, earlier as earlier_of, memory_apart as apart};
 
 use crate::backend::Backend;
@@ -19,20 +20,26 @@ pub fn least_refusal<S: BackendSelection>(alloc: Global, configs: &[S::Config]) 
     let empty = BTreeSet::new(alloc);
     let mut found = None;
     for config in configs {
-        found = earlier(found, refusal_over::<S>(alloc, &empty, config));
+        found = earlier(found, refusal_over::<S>(alloc, &empty, Some(config)));
     }
     found
 }
 
-// Why there is no selector over this set, memory apart.
-fn refusal_over<S: BackendSelection>(
+/// Returns why there is no selector over this set with this configuration, or with the default one for `None`, memory apart.
+///
+/// It builds the selector and drops it.
+pub fn refusal_over<S: BackendSelection>(
     alloc: Global,
     backends: &BTreeSet<Backend>,
-    config: &S::Config,
+    config: Option<&S::Config>,
 ) -> Option<Refusal>
-    ensures { result ≡ apart (S.refusal backends.now.keys config.now) }
+    ensures { result ≡ apart (S.refusal backends.now.keys (unwrap_or (option_copied config.entry) S.default_config)) }
 {
-    match S::build_with_config(alloc, backends, config) {
+    let built = match config {
+        Some(config) => S::build_with_config(alloc, backends, config),
+        None => S::build(alloc, backends),
+    };
+    match built {
         Ok(_) => None,
         Err(refusal) => memory_apart(refusal),
     }

@@ -1,9 +1,8 @@
 //! Loads of backends: how busy each identity is said to be, set one by one.
 //! A source of words reads them, and no draw changes them.
-ghost use Rattle.std.specs.Prelude.{◌≡◌, IfOk, IfErr};
+ghost use Rattle.std.specs.Prelude.{◌≡◌};
 ghost use Rattle.lb_select_base.specs.Backends.{Member};
-ghost use Rattle.lb_select_base.specs.Loads.{load_in, SetsLoad};
-ghost use Rattle.lb_select_base.specs.declared.refusal.Refusal.TheVariants.{OutOfMemory};
+ghost use Rattle.lb_select_base.specs.Loads.{load_in, IsLoadAnswer};
 
 use crate::backend::Backend;
 use crate::refusal::Refusal;
@@ -42,8 +41,7 @@ impl Loads {
     ///
     /// Refused for memory alone, and then nothing is set.
     pub fn set(&mut self, alloc: Global, backend: &Backend, load: u64) -> Result<(), Refusal>
-        ensures set { IfOk result (λ _. SetsLoad (load_in self.old) backend.now load (load_in self.new)) }
-        ensures refused { IfErr result (λ e. (e ≡ OutOfMemory) × ((m : Member) → load_in self.new m ≡ load_in self.old m)) }
+        ensures { IsLoadAnswer (load_in self.old) backend.now load result (load_in self.new) }
     {
         let identity = backend.clone_identity(alloc)?;
         let mut table = match self.table.take() {

@@ -1,10 +1,9 @@
 //! Sources of the words that walks draw: tickets of a counter; random words of a generator, or given ones. What a source may give is one
 //! relation over draws, so that a walk is described by the list of its draws.
-ghost use Rattle.std.specs.Prelude.{◌≡◌, ℕ, ⊤, IfOk, IfErr};
+ghost use Rattle.std.specs.Prelude.{◌≡◌, ℕ, ⊤};
 ghost use Rattle.lb_select_base.specs.Backends.{Member};
 ghost use Rattle.lb_select_base.specs.Draws.{Draw, ticket, random, load, CoreGives, HandedGives};
-ghost use Rattle.lb_select_base.specs.Loads.{load_in, SetsLoad};
-ghost use Rattle.lb_select_base.specs.declared.refusal.Refusal.TheVariants.{OutOfMemory};
+ghost use Rattle.lb_select_base.specs.Loads.{load_in, IsLoadAnswer};
 
 use crate::backend::Backend;
 use crate::loads::Loads;
@@ -61,8 +60,7 @@ impl<R: Rng + Drop> CoreWords<R> {
     ///
     /// Refused for memory alone, and then nothing is set; the words to come stay.
     pub fn set_load(&mut self, alloc: Global, backend: &Backend, load: u64) -> Result<(), Refusal>
-        ensures set { IfOk result (λ _. SetsLoad (load_in self.old.loads) backend.now load (load_in self.new.loads)) }
-        ensures refused { IfErr result (λ e. (e ≡ OutOfMemory) × ((m : Member) → load_in self.new.loads m ≡ load_in self.old.loads m)) }
+        ensures loads { IsLoadAnswer (load_in self.old.loads) backend.now load result (load_in self.new.loads) }
         ensures tickets { self.new.tickets ≡ self.old.tickets }
         ensures generator { self.new.generator ≡ self.old.generator }
     {

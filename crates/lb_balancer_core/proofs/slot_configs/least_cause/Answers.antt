@@ -23,5 +23,5 @@ loop-config-preserved g c =
     rw c.earlier-found.ensures
     (one_more (λ o. refusal (unwrap_or o default)) c.args.configs.now
     c.loop-config.config-index c.config-item.result _ _ _ (omega arith) c.config-item.is
-    (rw empty at c.cause_over.ensures)
+    (rw (empty, c.as_ref.ensures.value) at c.refusal_over.ensures)
     c.loop-config.invariant)

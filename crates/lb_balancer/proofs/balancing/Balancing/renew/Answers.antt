@@ -14,7 +14,7 @@ put_registry-requires-clause-registry g c =
     let is = c.renew-unserved.ensures.view in
     let now =
     later c.take_registry-cells.ensures.registry (renewed_later c.renew-unserved.result.1 c.take-held.result.value.served.view
-    c.args.members.keys c.founded.ensures is.registry is.registry_err)
+    c.args.members.keys c.founded.ensures is.updated.registry is.updated.refusals.registry_err)
     in
     elim c.match-answer.branch [ in-Ok w ↦ rw w.cells-is now | in-Err w ↦ rw w.cells-is now ]
 
@@ -23,21 +23,23 @@ exchange-unshown-requires-clause-registry g c =
     let is = c.renew-unserved.ensures.view in
     of-registry g.R.KeyRule.gives c.registry-registries.ensures c.self.view_is
     (later c.take_registry-cells.ensures.registry (renewed_later c.renew-unserved.result.1 c.take-held.result.value.served.view
-    c.args.members.keys c.founded.ensures is.registry is.registry_err))
+    c.args.members.keys c.founded.ensures is.updated.registry is.updated.refusals.registry_err))
 
 pub exchange-unshown-requires-clause-served : goal.exchange-unshown-requires-clause-served
 exchange-unshown-requires-clause-served g c =
     let is = c.renew-unserved.ensures.view in
-    renewed c.args.self.now c.renew-unserved.result.1 (known (c.self.invariant.0 ∙ c.self.view_is) c.take-held.ensures.fact) is.config is.id
-    c.args.members.keys (settings_of c.args.settings.entries) c.requires.discovered is.took is.view_err
+    renewed c.args.self.now c.renew-unserved.result.1 (known (c.self.invariant.0 ∙ c.self.view_is) c.take-held.ensures.fact) is.config
+    is.updated.refusals.id c.args.members.keys (settings_of c.args.settings.entries) c.requires.discovered
+    is.updated.some is.updated.refusals.view_err
 
 pub put-requires-clause-fact : goal.put-requires-clause-fact
 put-requires-clause-fact g c =
     let is = c.renew-unserved.ensures.view in
     let key = c.self.invariant.0 ∙ c.self.view_is in
     let now =
-    known (sym key) (renewed c.args.self.now c.renew-unserved.result.1 (known key c.take-held.ensures.fact) is.config is.id
-    c.args.members.keys (settings_of c.args.settings.entries) c.requires.discovered is.took is.view_err)
+    known (sym key) (renewed c.args.self.now c.renew-unserved.result.1 (known key c.take-held.ensures.fact) is.config
+    is.updated.refusals.id c.args.members.keys (settings_of c.args.settings.entries) c.requires.discovered
+    is.updated.some is.updated.refusals.view_err)
     in
     elim c.match-answer.branch [ in-Ok w ↦ rw w.held-is now | in-Err w ↦ rw w.held-is now ]
 
@@ -46,8 +48,8 @@ returns-clause-taken g c =
     let is = c.renew-unserved.ensures.view in
     let was = known (c.self.invariant.0 ∙ c.self.view_is) c.take-held.ensures.fact in
     let now =
-    renewed c.args.self.now c.renew-unserved.result.1 was is.config is.id c.args.members.keys (settings_of c.args.settings.entries)
-    c.requires.discovered is.took is.view_err
+    renewed c.args.self.now c.renew-unserved.result.1 was is.config is.updated.refusals.id c.args.members.keys
+    (settings_of c.args.settings.entries) c.requires.discovered is.updated.some is.updated.refusals.view_err
     in
     on-ok-more c.renew-unserved.result.1 _ _ is.taken
     (λ taken. (c.take-held.result.value.served, (c.renew-unserved.new.self.served, (was, (now, taken)))))
@@ -58,4 +60,4 @@ returns-clause-refused g c =
     none-renewed g.R.KeyRule.gives c.args.self.now c.args.members.keys c.renew-unserved.result.1
     (known (c.self.invariant.0 ∙ c.self.view_is) c.take-held.ensures.fact)
     (of-registry g.R.KeyRule.gives c.registry-registries.ensures c.self.view_is c.take_registry-cells.ensures.registry)
-    is.refused is.least
+    is.updated.refusals.refused is.least

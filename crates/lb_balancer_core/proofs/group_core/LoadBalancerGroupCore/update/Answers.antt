@@ -15,12 +15,14 @@ returns-in_err-scheduled-clause-refused g c =
       settings = settings_of c.in_ok-members.settings.entries;
       discovered = c.in_ok-members.ensures.ok;
       cause = c.in_err-scheduled.ensures.answers;
-      unknown = λ why. c.in_err-scheduled.ensures.unknown (ap Err why);
-      numbers = λ why. c.in_err-scheduled.ensures.numbers (ap Err why);
-      missing = λ key_of events h made e s none change has. error-is _ _
-          (c.in_err-scheduled.ensures.missing key_of events h made e s none change has);
-      lacking = λ key_of events h made e s none change has few. error-is _ _
-          (c.in_err-scheduled.ensures.lacking key_of events h made e s none change has few);
+      refusals = record {
+        unknown = λ why. c.in_err-scheduled.ensures.refusals.unknown (ap Err why);
+        numbers = λ why. c.in_err-scheduled.ensures.refusals.numbers (ap Err why);
+        missing = λ key_of events h made e s none change has. error-is _ _
+            (c.in_err-scheduled.ensures.refusals.missing key_of events h made e s none change has);
+        lacking = λ key_of events h made e s none change has few. error-is _ _
+            (c.in_err-scheduled.ensures.refusals.lacking key_of events h made e s none change has few);
+      };
     })))
 
 pub returns-clause-updated : goal.returns-clause-updated

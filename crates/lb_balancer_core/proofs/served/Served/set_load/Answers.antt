@@ -16,8 +16,7 @@ returns g c =
     subst (λ (v : ServedValue g.row.S-Config.Denot g.row.G.Denot). IsLoadSet v c.args.backend.now c.args.load c.set_load.result now)
     c.self.view_is
     (record {
-      set = is.set;
-      refused = is.refused;
+      loads = is.loads;
       stands = λ e s. record { view = s.view; members = s.members; tickets = is.tickets ∙ s.tickets };
       kept = rw (← is.tickets, ← is.generator) refl;
     })

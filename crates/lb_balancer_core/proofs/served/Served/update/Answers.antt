@@ -83,7 +83,7 @@ invariant_of-self-in-Ok g c =
     let answer = c.renew-unserved.result.1 in
     let old = sym c.is_membership.ensures ∙ c.if-is_membership.false in
     let same = ap (same_members members) (sym p.1.1.members) ∙ old in
-    let took = on-ok answer _ ok is.took in (
+    let took = on-ok answer _ ok is.updated.some in (
       is.config ∙ p.0,
       (
         _,
@@ -97,7 +97,7 @@ invariant_of-self-in-Err g c =
     let p = c.self.invariant in
     let e = p.1.0 in
     let is = c.renew-unserved.ensures in
-    let kept = on-err c.renew-unserved.result.1 _ _ c.in-Err.is is.view_err in
+    let kept = on-err c.renew-unserved.result.1 _ _ c.in-Err.is is.updated.refusals.view_err in
     let members = on-err c.renew-unserved.result.1 _ _ c.in-Err.is is.members_err in (
       is.config ∙ p.0,
       (e, record { view = kept (view_events e) p.1.1.view; members = members ∙ p.1.1.members; tickets = p.1.1.tickets }),
@@ -121,7 +121,7 @@ returns-in-Ok-clause-updated g c key_of events r e s =
       words = record { tickets = 0; generator = c.self.inside.words.generator; loads = c.self.inside.words.loads };
     } in
     let stands = stands-other e members settings (shown_cells key_of c.self.inside.served.view.id members events)
-    c.renew-unserved.new.self.view (on-ok answer _ ok is.updated key_of (view_events e) events here.view r) now.config now.members
+    c.renew-unserved.new.self.view (on-ok answer _ ok is.updated.view key_of (view_events e) events here.view r) now.config now.members
     now.words same (on-ok answer _ ok is.members old) refl in
     let free = no-cause (g.S.BackendSelection.refusal members (unwrap_or c.self.inside.config g.S.BackendSelection.default_config)) key_of
     c.self.inside.served.view.id members events e same c.in_ok-selector.ensures.made.0
@@ -132,7 +132,7 @@ returns-in-Ok-clause-updated g c key_of events r e s =
         subst (λ i. Stands {C = g.row.S-Config.Denot} {G = g.row.G.Denot} (updated key_of i members settings events e) now) id stands,
         subst (λ i. IsRegistryAfter g.R.KeyRule.gives key_of (registry_updated key_of i members (view_events e) events)
             c.renew-unserved.new.registry) id
-            (on-ok answer _ ok is.registry key_of (view_events e) events here.view r),
+            (on-ok answer _ ok is.updated.registry key_of (view_events e) events here.view r),
       ),
     )
 
@@ -183,26 +183,27 @@ returns-in-Ok-clause-stays g c = record {
     ap (λ (v : ServedValue g.row.S-Config.Denot g.row.G.Denot). v.words.generator) c.self.view_is,
     ap (λ (v : ServedValue g.row.S-Config.Denot g.row.G.Denot). v.words.loads) c.self.view_is,
   );
-  id = c.renew-unserved.ensures.id ∙ ap (λ (v : ServedValue g.row.S-Config.Denot g.row.G.Denot). v.view.id) c.self.view_is;
+  id = c.renew-unserved.ensures.updated.refusals.id
+      ∙ ap (λ (v : ServedValue g.row.S-Config.Denot g.row.G.Denot). v.view.id) c.self.view_is;
   config = ap (λ (v : ServedValue g.row.S-Config.Denot g.row.G.Denot). v.config) c.self.view_is;
-  one_registry = c.renew-unserved.ensures.one_registry;
+  one_registry = c.renew-unserved.ensures.updated.refusals.one_registry;
 }
 
 pub returns-in-Err-clause-stays : goal.returns-in-Err-clause-stays
 returns-in-Err-clause-stays g c =
     let is = c.renew-unserved.ensures in
     let answer = c.renew-unserved.result.1 in
-    let kept = on-err answer _ _ c.in-Err.is is.view_err in
+    let kept = on-err answer _ _ c.in-Err.is is.updated.refusals.view_err in
     let members = on-err answer _ _ c.in-Err.is is.members_err in
     record {
       err = λ e s. let here = subst (λ (v : ServedValue g.row.S-Config.Denot g.row.G.Denot). Stands e v) (sym c.self.view_is) s in
           record { view = kept (view_events e) here.view; members = members ∙ here.members; tickets = here.tickets };
-      registry_err = on-err answer _ _ c.in-Err.is is.registry_err;
+      registry_err = on-err answer _ _ c.in-Err.is is.updated.refusals.registry_err;
       words = (
         ap (λ (v : ServedValue g.row.S-Config.Denot g.row.G.Denot). v.words.generator) c.self.view_is,
         ap (λ (v : ServedValue g.row.S-Config.Denot g.row.G.Denot). v.words.loads) c.self.view_is,
       );
-      id = is.id ∙ ap (λ (v : ServedValue g.row.S-Config.Denot g.row.G.Denot). v.view.id) c.self.view_is;
+      id = is.updated.refusals.id ∙ ap (λ (v : ServedValue g.row.S-Config.Denot g.row.G.Denot). v.view.id) c.self.view_is;
       config = ap (λ (v : ServedValue g.row.S-Config.Denot g.row.G.Denot). v.config) c.self.view_is;
-      one_registry = is.one_registry;
+      one_registry = is.updated.refusals.one_registry;
     }

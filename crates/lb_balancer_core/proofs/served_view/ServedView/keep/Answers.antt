@@ -16,7 +16,7 @@ invariant_of-self g c =
     let settings = settings_of c.args.settings.entries in
     let here = sym (ap (λ (v : ServedViewValue g.row.S-Config.Denot). v.members) c.self.view_is) ∙ p.2 in
     let same : same_members members (membership_after p.0) ≡ true = ap (same_members members) (sym here) ∙ c.requires in
-    let shown = on-ok c.update.result _ (c.update.ensures.same p.0 p.1 same) c.update.ensures.some in (
+    let shown = on-ok c.update.result _ (c.update.ensures.updated.same p.0 p.1 same) c.update.ensures.updated.some in (
       after_settings settings (with_membership members shown.0 p.0),
       shown.1 p.0 p.1,
       p.2 ∙ sym (kept-members settings members shown.0 p.0 same),
@@ -30,7 +30,7 @@ returns-clause-registry g c key_of events r =
     let same : same_members members (membership_after p.0) ≡ true = ap (same_members members) (sym here) ∙ c.requires in
     let kept : registry_updated key_of c.self.inside.view.id members p.0 events ≡ events = rw same refl in
     subst (λ es. IsRegistryAfter g.R.KeyRule.gives key_of es c.update.new.registry) kept
-    (on-ok c.update.result _ (c.update.ensures.same p.0 p.1 same) c.update.ensures.registry key_of p.0 events p.1 r)
+    (on-ok c.update.result _ (c.update.ensures.updated.same p.0 p.1 same) c.update.ensures.updated.registry key_of p.0 events p.1 r)
 
 pub returns-clause-took : goal.returns-clause-took
 returns-clause-took g c =
@@ -38,7 +38,7 @@ returns-clause-took g c =
     let members = c.args.members.keys in
     let here = sym (ap (λ (v : ServedViewValue g.row.S-Config.Denot). v.members) c.self.view_is) ∙ p.2 in
     let same : same_members members (membership_after p.0) ≡ true = ap (same_members members) (sym here) ∙ c.requires in
-    let shown = on-ok c.update.result _ (c.update.ensures.same p.0 p.1 same) c.update.ensures.some in (
+    let shown = on-ok c.update.result _ (c.update.ensures.updated.same p.0 p.1 same) c.update.ensures.updated.some in (
       shown.0,
       (λ views after.
           shown.1 views (subst (λ (v : ServedViewValue g.row.S-Config.Denot). IsViewAfter views v.view) (sym c.self.view_is) after)),
@@ -51,7 +51,7 @@ returns-clause-taken g c =
     let settings = settings_of c.args.settings.entries in
     let here = sym (ap (λ (v : ServedViewValue g.row.S-Config.Denot). v.members) c.self.view_is) ∙ p.2 in
     let same : same_members members (membership_after p.0) ≡ true = ap (same_members members) (sym here) ∙ c.requires in
-    let shown = on-ok c.update.result _ (c.update.ensures.same p.0 p.1 same) c.update.ensures.some in
+    let shown = on-ok c.update.result _ (c.update.ensures.updated.same p.0 p.1 same) c.update.ensures.updated.some in
     record {
       views = p.0;
       cells = shown.0;

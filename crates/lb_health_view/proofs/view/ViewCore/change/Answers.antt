@@ -25,29 +25,61 @@ still :
 still r now before after is g s flags =
     on_err r (λ (views : List ViewEvent) h. roomier views before after (subst (λ v. IsViewAfter views v) (sym is) h) g s flags)
 
-pub returns-in_err-flag_all-clause-view_err : goal.returns-in_err-flag_all-clause-view_err
-returns-in_err-flag_all-clause-view_err g c =
-    still _ c.args.self.now _ _ c.self.view_is refl
-    (ap (λ (ss : List ViewSnapshot). snapshot_of c.self.inside.current ∷ map snapshot_of ss) c.reserve.ensures.items)
-    c.flag_all.ensures.flags
+pub returns-in_err-flag_all-clause-refusals : goal.returns-in_err-flag_all-clause-refusals
+returns-in_err-flag_all-clause-refusals g c = record {
+  view_err = still _ c.args.self.now _ _ c.self.view_is refl
+      (ap (λ (ss : List ViewSnapshot). snapshot_of c.self.inside.current ∷ map snapshot_of ss) c.reserve.ensures.items)
+      c.flag_all.ensures.flags;
+  registry_err = search rules;
+  exhausted = search rules;
+  last = search rules;
+  registry = search rules;
+  refused = search rules;
+  id = search rules;
+  one_registry = search rules;
+}
 
-pub returns-in_err-copy-clause-view_err : goal.returns-in_err-copy-clause-view_err
-returns-in_err-copy-clause-view_err g c =
-    still _ c.args.self.now _ _ c.self.view_is refl
-    (ap (λ (ss : List ViewSnapshot). snapshot_of c.self.inside.current ∷ map snapshot_of ss) c.reserve.ensures.items)
-    c.flag_all.ensures.flags
+pub returns-in_err-copy-clause-refusals : goal.returns-in_err-copy-clause-refusals
+returns-in_err-copy-clause-refusals g c = record {
+  view_err = still _ c.args.self.now _ _ c.self.view_is refl
+      (ap (λ (ss : List ViewSnapshot). snapshot_of c.self.inside.current ∷ map snapshot_of ss) c.reserve.ensures.items)
+      c.flag_all.ensures.flags;
+  registry_err = search rules;
+  exhausted = search rules;
+  last = search rules;
+  registry = search rules;
+  refused = search rules;
+  id = search rules;
+  one_registry = search rules;
+}
 
-pub returns-in_err-members-clause-view_err : goal.returns-in_err-members-clause-view_err
-returns-in_err-members-clause-view_err g c =
-    still _ c.args.self.now _ _ c.self.view_is refl
-    (ap (λ (ss : List ViewSnapshot). snapshot_of c.self.inside.current ∷ map snapshot_of ss) c.reserve.ensures.items)
-    c.flag_all.ensures.flags
+pub returns-in_err-members-clause-refusals : goal.returns-in_err-members-clause-refusals
+returns-in_err-members-clause-refusals g c = record {
+  view_err = still _ c.args.self.now _ _ c.self.view_is refl
+      (ap (λ (ss : List ViewSnapshot). snapshot_of c.self.inside.current ∷ map snapshot_of ss) c.reserve.ensures.items)
+      c.flag_all.ensures.flags;
+  registry_err = search rules;
+  exhausted = search rules;
+  last = search rules;
+  registry = search rules;
+  refused = search rules;
+  id = search rules;
+  one_registry = search rules;
+}
 
-pub returns-in_err-cells-clause-view_err : goal.returns-in_err-cells-clause-view_err
-returns-in_err-cells-clause-view_err g c =
-    still _ c.args.self.now _ _ c.self.view_is refl
-    (ap (λ (ss : List ViewSnapshot). snapshot_of c.self.inside.current ∷ map snapshot_of ss) c.reserve.ensures.items)
-    c.flag_all.ensures.flags
+pub returns-in_err-cells-clause-refusals : goal.returns-in_err-cells-clause-refusals
+returns-in_err-cells-clause-refusals g c = record {
+  view_err = still _ c.args.self.now _ _ c.self.view_is refl
+      (ap (λ (ss : List ViewSnapshot). snapshot_of c.self.inside.current ∷ map snapshot_of ss) c.reserve.ensures.items)
+      c.flag_all.ensures.flags;
+  registry_err = search rules;
+  exhausted = search rules;
+  last = search rules;
+  registry = search rules;
+  refused = search rules;
+  id = search rules;
+  one_registry = search rules;
+}
 
 pub returns-clause-some : goal.returns-clause-some
 returns-clause-some g c = (

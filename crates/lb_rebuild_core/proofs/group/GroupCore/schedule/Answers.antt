@@ -1,6 +1,6 @@
 -- A membership reaches group and view, or neither.
 use Rattle.std.proofs.Common.{◌≡◌, ◌+◌, ◌^◌, ◌&&◌, ◌==◌, ◌∙◌, [], ◌∷◌, ◌++◌, refl, ap, sym, subst, Bool, true, false, not, List}
-use Rattle.std.proofs.Common.{length, Option, Some, None, rules, arith, Result, Ok, Err, if◌then◌else◌}
+use Rattle.std.proofs.Common.{ℕ, length, Option, Some, None, rules, arith, Result, Ok, Err, if◌then◌else◌}
 use Rattle.std.proofs.lemmas.Bool.{false≢true, eq-eqb}
 use Rattle.std.specs.Prelude.{◌≢◌}
 use Rattle.lb_select_base.specs.Backends.{Member}
@@ -27,7 +27,7 @@ pub invariant_of-self-in-None : goal.invariant_of-self-in-None
 invariant_of-self-in-None g c =
     let p = c.self.invariant in
     let s = p.1.1 in
-    let shown = c.in_ok-update.ensures.some in (
+    let shown = c.in_ok-update.ensures.updated.some in (
       p.0,
       (
         _,
@@ -43,7 +43,7 @@ pub invariant_of-self-in-Some : goal.invariant_of-self-in-Some
 invariant_of-self-in-Some g c =
     let p = c.self.invariant in
     let s = p.1.1 in
-    let shown = c.in_ok-update.ensures.some in
+    let shown = c.in_ok-update.ensures.updated.some in
     let change = some-change p.0 (slot_events p.1.0) c.args.discovered.keys c.in_ok-prepared.prepared c.in-Some.prepared c.in-Some.is
     (c.in_ok-prepared.ensures.answers p.0 (slot_events p.1.0) s.group) in
     let after : StandsFor p.0 (Scheduled c.args.discovered.keys c.args.now ∷ slot_events p.1.0) c.commit.new.self =
@@ -80,6 +80,10 @@ generation_left made e members none change full =
     none_left true true o s t e = cc
     none_left true false o s t e = cc
     none_left false b o s t e = cc
+
+-- the same of what is that generation
+one_left : {n m : ℕ} → n ≡ m → m + 1 ≢ 2 ^ 64 → n + 1 ≢ 2 ^ 64
+one_left is left full = left (ap (λ k. k + 1) (sym is) ∙ full)
 
 -- an answer is no refusal
 answered : {A E : Type 0} (x : A) (e : E) → (let ok : Result A E = Ok x in let err : Result A E = Err e in ok ≡ err) → ⊥
@@ -123,11 +127,14 @@ returns-in_err-prepared g c =
       registry = tt;
       err = λ made e s. s;
       registry_err = λ key_of events r. r;
-      unknown = λ why key_of events r. known.unknown (ap Err (error-is _ _ why)) key_of events r p.0 (slot_events p.1.0) own;
-      numbers = λ why key_of events r. known.numbers (ap Err (error-is _ _ why)) key_of events r p.0 (slot_events p.1.0) own;
-      missing = λ key_of events r made e s none change has. ap Err (known.missing key_of events r made (slot_events e) s.group none has);
-      lacking = λ key_of events r made e s none change has few.
-          ap Err (known.lacking key_of events r made (slot_events e) s.group none has few);
+      refusals = record {
+        unknown = λ why. (known.refusals p.0 (slot_events p.1.0) own).unknown (error-is _ _ why);
+        numbers = λ why. (known.refusals p.0 (slot_events p.1.0) own).numbers (error-is _ _ why);
+        missing = λ key_of events r made e s none change has.
+            ap Err ((known.refusals made (slot_events e) s.group).missing key_of events r none has);
+        lacking = λ key_of events r made e s none change has few.
+            ap Err ((known.refusals made (slot_events e) s.group).lacking key_of events r none has few);
+      };
       site = record { group = record { id = refl; gate = refl; configs = refl }; id = refl; registry = refl };
       one_registry = refl;
     })
@@ -135,35 +142,38 @@ returns-in_err-prepared g c =
 pub returns-in_err-update : goal.returns-in_err-update
 returns-in_err-update g c =
     let members = c.args.discovered.keys in
-    let known = c.in_err-update.ensures in
+    let known = c.in_err-update.ensures.updated in
+    let refusals = known.refusals in
     let is : c.from_residual-in_err-update.result ≡ Err c.in_err-update.field-0.0 = search rules in
     rw (is, ← c.self.view_is) (record {
       answers = λ made e s. refused-schedule made e members _ c.in_ok-prepared.prepared c.in_err-update.field-0.0 s.group
           (c.in_ok-prepared.ensures.answers made (slot_events e) s.group) c.in_ok-prepared.ensures.fits
           (λ same. absurd (false≢true (known.same (views_of made e) s.view same)))
-          (λ why. known.last (ap Err why) (views_of made e) s.view)
-          (view-refused c.in_err-update.field-0.0 known.refused);
+          (λ why. ap (λ n. n + 1) (sym s.view.generation) ∙ refusals.last (ap Err why))
+          (view-refused c.in_err-update.field-0.0 refusals.refused);
       stands = tt;
       group = tt;
       registry = tt;
-      err = λ made e s. record { few = s.few; group = s.group; view = known.view_err (views_of made e) s.view };
-      registry_err = known.registry_err;
-      unknown = λ why. known.unknown (ap Err (error-is _ _ why));
-      numbers = λ why. known.numbers (ap Err (error-is _ _ why));
-      missing = λ key_of events r made e s none change has.
-          ap Err (error-is _ _ (known.missing key_of (views_of made e) events s.view r (differs made e members change)
-          (generation_left made e members none change) has));
-      lacking = λ key_of events r made e s none change has few.
-          ap Err (error-is _ _ (known.lacking key_of (views_of made e) events s.view r (differs made e members change)
-          (generation_left made e members none change) has few));
-      site = record { group = record { id = refl; gate = refl; configs = refl }; id = c.update.ensures.id; registry = refl };
-      one_registry = c.update.ensures.one_registry;
+      err = λ made e s. record { few = s.few; group = s.group; view = refusals.view_err (views_of made e) s.view };
+      registry_err = refusals.registry_err;
+      refusals = record {
+        unknown = λ why. refusals.registry.unknown (ap Err (error-is _ _ why));
+        numbers = λ why. refusals.registry.numbers (ap Err (error-is _ _ why));
+        missing = λ key_of events r made e s none change has.
+            ap Err (error-is _ _ (refusals.registry.missing key_of events r (views_of made e) s.view (differs made e members change)
+            (one_left s.view.generation (generation_left made e members none change)) has));
+        lacking = λ key_of events r made e s none change has few.
+            ap Err (error-is _ _ (refusals.registry.lacking key_of events r (views_of made e) s.view (differs made e members change)
+            (one_left s.view.generation (generation_left made e members none change)) has few));
+      };
+      site = record { group = record { id = refl; gate = refl; configs = refl }; id = refusals.id; registry = refl };
+      one_registry = refusals.one_registry;
     })
 
 pub returns-in-None : goal.returns-in-None
 returns-in-None g c =
     let members = c.args.discovered.keys in
-    let known = c.in_ok-update.ensures in
+    let known = c.in_ok-update.ensures.updated in
     rw (← c.self.view_is) (record {
       answers = λ made e s. same_told made (slot_events e) members c.in_ok-prepared.prepared
           (record { generation = c.newest.result; changed = false; turns = c.new.result }) c.in-None.is
@@ -178,22 +188,24 @@ returns-in-None g c =
       registry = λ key_of events r made e s. known.registry key_of (views_of made e) events s.view r;
       err = tt;
       registry_err = tt;
-      unknown = λ why. absurd (answered _ _ why);
-      numbers = λ why. absurd (answered _ _ why);
-      missing = λ key_of events r made e s none change has.
-          absurd (false≢true (sym (none-change made (slot_events e) members c.in_ok-prepared.prepared c.in-None.is
-          (c.in_ok-prepared.ensures.answers made (slot_events e) s.group)) ∙ change));
-      lacking = λ key_of events r made e s none change has few.
-          absurd (false≢true (sym (none-change made (slot_events e) members c.in_ok-prepared.prepared c.in-None.is
-          (c.in_ok-prepared.ensures.answers made (slot_events e) s.group)) ∙ change));
-      site = record { group = record { id = refl; gate = refl; configs = refl }; id = c.update.ensures.id; registry = refl };
-      one_registry = c.update.ensures.one_registry;
+      refusals = record {
+        unknown = λ why. absurd (answered _ _ why);
+        numbers = λ why. absurd (answered _ _ why);
+        missing = λ key_of events r made e s none change has.
+            absurd (false≢true (sym (none-change made (slot_events e) members c.in_ok-prepared.prepared c.in-None.is
+            (c.in_ok-prepared.ensures.answers made (slot_events e) s.group)) ∙ change));
+        lacking = λ key_of events r made e s none change has few.
+            absurd (false≢true (sym (none-change made (slot_events e) members c.in_ok-prepared.prepared c.in-None.is
+            (c.in_ok-prepared.ensures.answers made (slot_events e) s.group)) ∙ change));
+      };
+      site = record { group = record { id = refl; gate = refl; configs = refl }; id = known.refusals.id; registry = refl };
+      one_registry = known.refusals.one_registry;
     })
 
 pub returns-in-Some : goal.returns-in-Some
 returns-in-Some g c =
     let members = c.args.discovered.keys in
-    let known = c.in_ok-update.ensures in
+    let known = c.in_ok-update.ensures.updated in
     let change = λ (made : Made g.row.S-Config.Denot) (e : History) (s : StandsFor made (slot_events e) c.self.inside.group).
     some-change made (slot_events e) members c.in_ok-prepared.prepared c.in-Some.prepared c.in-Some.is
     (c.in_ok-prepared.ensures.answers made (slot_events e) s) in
@@ -211,14 +223,16 @@ returns-in-Some g c =
       registry = λ key_of events r made e s. known.registry key_of (views_of made e) events s.view r;
       err = tt;
       registry_err = tt;
-      unknown = λ why. absurd (answered _ _ why);
-      numbers = λ why. absurd (answered _ _ why);
-      missing = λ key_of events r made e s none other has.
-          absurd (answered _ _ (known.missing key_of (views_of made e) events s.view r (differs made e members other)
-          (generation_left made e members none other) has));
-      lacking = λ key_of events r made e s none other has few.
-          absurd (answered _ _ (known.lacking key_of (views_of made e) events s.view r (differs made e members other)
-          (generation_left made e members none other) has few));
-      site = record { group = c.commit.ensures.site; id = c.update.ensures.id; registry = refl };
-      one_registry = c.update.ensures.one_registry;
+      refusals = record {
+        unknown = λ why. absurd (answered _ _ why);
+        numbers = λ why. absurd (answered _ _ why);
+        missing = λ key_of events r made e s none other has.
+            absurd (answered _ _ (known.refusals.registry.missing key_of events r (views_of made e) s.view (differs made e members other)
+            (one_left s.view.generation (generation_left made e members none other)) has));
+        lacking = λ key_of events r made e s none other has few.
+            absurd (answered _ _ (known.refusals.registry.lacking key_of events r (views_of made e) s.view (differs made e members other)
+            (one_left s.view.generation (generation_left made e members none other)) has few));
+      };
+      site = record { group = c.commit.ensures.site; id = known.refusals.id; registry = refl };
+      one_registry = known.refusals.one_registry;
     })

@@ -1,11 +1,10 @@
 -- The view does not see it; each backend is judged in the generation that the slot serves.
-use Rattle.std.proofs.Common.{◌≡◌, ◌∙◌, refl, sym, subst, Some, slice_get}
+use Rattle.std.proofs.Common.{◌≡◌, ◌∙◌, refl, Some, slice_get}
 use Rattle.lb_select_base.specs.Loads.{load_in}
 use Rattle.lb_rebuild_core.specs.SlotsCalls.{select_events}
 use Rattle.lb_rebuild_core.proofs.Selecting.{asked-in-more}
 use Rattle.lb_rebuild_core.specs.GroupHistory.{slot_events}
 use Rattle.lb_rebuild_core.specs.GroupCalls.{served_at, Judges, AcceptsBy}
-use Rattle.lb_rebuild_core.specs.GroupStates.{Stands}
 use Rattle.lb_rebuild_core.proofs.Judging.{number-there, accepts-served}
 use Rattle.lb_rebuild_core.proofs.Joins.{joined-still, still-selected}
 use Rattle.lb_rebuild_core.proofs.group.GroupCore.select_with.Goals as goal
@@ -21,21 +20,23 @@ invariant_of-self g c =
       ),
     )
 
-pub returns-clause-answers : goal.returns-clause-answers
-returns-clause-answers g c key_of events registry made e s =
-    let here : Stands made e (record {
-      group = c.self.inside.group;
-      view = c.self.inside.view;
-      registry = c.self.inside.registry.value;
-    }) =
-    subst (λ v. Stands made e v) (sym c.self.view_is) s in
-    let at : (config : _) → slice_get made.configs c.args.slot ≡ Some config → c.unwrap_or-served.result ≡ served_at c.args.slot e =
-    λ config there. c.unwrap_or-served.ensures ∙ number-there made c.args.slot (served_at c.args.slot e) c.served.result config there
-    (c.served.ensures made (slot_events e) here.group) in
-    asked-in-more g.S.BackendSelection.may_draw_random g.S.BackendSelection.walks
-    (AcceptsBy g.F.Fn c.args.accept.now (Judges key_of events made e (served_at c.args.slot e)))
-    (load_in c.args.loads.now) made (slot_events e) c.args.slot c.args.key.now c.args.limit c.args.random.now c.select_with.result
-    (c.select_with.ensures.answers made (slot_events e) here.group)
-    (λ config there b a is.
-    accepts-served key_of events made e c.args.slot c.unwrap_or-served.result here.view registry (at config there) is.shown.now b a is.shows
-    is.says.met)
+pub returns : goal.returns
+returns g c =
+    let told = c.select_with.ensures in
+    rw (← c.self.view_is) (record {
+      answers = λ key_of events registry made e s.
+          let at : (config : _) → slice_get made.configs c.args.slot ≡ Some config
+          → c.unwrap_or-served.result ≡ served_at c.args.slot e =
+          λ config there. c.unwrap_or-served.ensures ∙ number-there made c.args.slot (served_at c.args.slot e) c.served.result config there
+          (c.served.ensures made (slot_events e) s.group) in
+          asked-in-more g.S.BackendSelection.may_draw_random g.S.BackendSelection.walks
+          (AcceptsBy g.F.Fn c.args.accept.now (Judges key_of events made e (served_at c.args.slot e)))
+          (load_in c.args.loads.now) made (slot_events e) c.args.slot c.args.key.now c.args.limit c.args.random.now c.select_with.result
+          (told.answers made (slot_events e) s.group)
+          (λ config there b a is.
+          accepts-served key_of events made e c.args.slot c.unwrap_or-served.result s.view registry (at config there) is.shown.now b a
+          is.shows is.says.met);
+      stands = λ made e s. joined-still made e (select_events made c.args.slot c.select_with.result) _ _ _ _ refl s (told.stands made)
+          (still-selected made c.args.slot c.select_with.result e);
+      site = record { group = told.site; id = refl; registry = refl };
+    })

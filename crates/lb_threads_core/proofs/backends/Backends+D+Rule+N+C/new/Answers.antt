@@ -6,7 +6,7 @@ use Rattle.lb_health_core.specs.Registry.{IsRegistryAfter, RegistryValue}
 use Rattle.lb_health_core.specs.RegistryEvents.{Applied, Registered}
 use Rattle.lb_health_core.specs.declared.keys.Rule.{Rule}
 use Rattle.lb_threads_core.specs.Registry.{RegistryHandle}
-use Rattle.lb_threads_core.proofs.Registrations.{registers}
+use Rattle.lb_threads_core.proofs.Registrations.{err-as, registers}
 use Rattle.lb_threads_core.proofs.backends.Backends+D+Rule+N+C.new.Goals as goal
 
 if_ok : {A E : Type 0} {P Q S : A → Type 0} (r : Result A E) → IfOk r P → IfOk r Q → ((x : A) → P x → Q x → S x) → IfOk r S
@@ -19,13 +19,13 @@ returns-in_err-view-clause-refused g c =
     let told = c.in_err-view.ensures in
     let is : c.from_residual.result ≡ Err e = search rules in
     let empty = c.with_rule-registry.ensures by_identity (λ b k h. h) in
-    rw is (registers e (told.refused, λ x. absurd (omega (arith, (told.exhausted by_identity [] empty).0 x))))
+    rw is (registers e (told.refused, λ x. absurd (omega (arith, (told.registered.exhausted by_identity [] empty).0 (err-as e x)))))
 
 pub returns-clause-parts : goal.returns-clause-parts
 returns-clause-parts g c =
     let empty = c.with_rule-registry.ensures by_identity (λ b k h. h) in
     if_ok c.behind.result c.behind.ensures.made c.behind.ensures.id
-    (λ b made id. (made.0, made.2, id ∙ c.in_ok-view.ensures.id by_identity [] empty))
+    (λ b made id. (made.0, made.2, id ∙ c.in_ok-view.ensures.registered.number by_identity [] empty))
 
 pub returns-clause-registry : goal.returns-clause-registry
 returns-clause-registry g c =
@@ -35,4 +35,4 @@ returns-clause-registry g c =
     let made : (arc_value c.in_ok-registry-2.registry).start ≡ c.register.new.registry = search rules in
     if_ok c.behind.result c.behind.ensures.made c.behind.ensures.id
     (λ b is id. subst After (sym (ap (λ (h : RegistryHandle (Rule g.row.N.Denot)). h.start) is.1 ∙ made))
-    (c.in_ok-view.ensures.registry by_identity [] empty))
+    (c.in_ok-view.ensures.registered.ok by_identity [] empty))

@@ -89,15 +89,16 @@ returns g c =
       | goal.in-Err w ↦
           rw w.result-is
           (does-refuse b c.args.now ls c.requires.whole (rw set at (w.in-Err.ensures.answers _ _ b.is.core_is))
-          (λ e. w.in-Err.ensures.unknown (ap Err e) _ _ b.kept) (λ e. rw set at (w.in-Err.ensures.numbers (ap Err e) _ _ b.kept))
-          (rw set at (w.in-Err.ensures.lacking _ _ b.kept _ _ b.is.core_is))
+          (λ e. w.in-Err.ensures.refusals.unknown (ap Err e) _ _ b.kept)
+          (λ e. rw set at (w.in-Err.ensures.refusals.numbers (ap Err e) _ _ b.kept))
+          (rw set at (w.in-Err.ensures.refusals.lacking _ _ b.kept _ _ b.is.core_is))
           (c.schedule.ensures.site, w.in-Err.ensures.err _ _ b.is.core_is)
           (w.in-Err.ensures.registry_err _ _ b.kept) c.schedule.ensures.one_registry)
       | goal.in-Ok w ↦
           let flags = rw c.in-Ok-Ok.is-0 at c.settings_from-settings.ensures.settings ∙ ap settings_in c.deref-3.ensures.value in
           rw (w.result-is, w.generation_of.ensures)
           (does-update b c.args.now ls c.requires.whole _ (rw set at (w.in-Ok.ensures.answers _ _ b.is.core_is))
-          (rw set at (w.in-Ok.ensures.lacking _ _ b.kept _ _ b.is.core_is))
+          (rw set at (w.in-Ok.ensures.refusals.lacking _ _ b.kept _ _ b.is.core_is))
           (c.schedule.ensures.site, rw (set, flags) at (w.in-Ok.ensures.stands _ _ b.kept _ _ b.is.core_is))
           (rw set at (w.in-Ok.ensures.registry _ _ b.kept _ _ b.is.core_is)) c.schedule.ensures.one_registry)
     ])
