@@ -1,5 +1,5 @@
 -- What the makers of a balancer that threads share promise.
-use Rattle.std.specs.Prelude.{◌≡◌, Option, Result, IfOk}
+use Rattle.std.specs.Prelude.{◌≡◌, Option, None, Result, Bool, false, IfOk, ℕ}
 use Rattle.lb_select_base.specs.Backends.{Member}
 use Rattle.lb_select_base.specs.declared.refusal.Refusal.{Refusal}
 use Rattle.lb_health_core.specs.Registry.{RegistryValue}
@@ -20,3 +20,12 @@ pub record IsBalancerMade {A D C R : Type 0} (gives : R → Member → Member �
   pub view : IsMadeWithView gives registry (refusal config) r (λ a. (shared a).view_id)
   -- it is refused for the configuration's cause; where there is none, for memory or because no number is left
   pub refused : IsMakingRefusal (refusal config) r
+
+-- A balancer that was just made checks the targets of its registry where `owned` says that it owns these, and until it is set otherwise it
+-- runs each of its tasks once, and one check after another.
+pub record IsNotSetYet (owned owns_checks : Bool) (health_check_frequency update_frequency : Option ℕ) (parallel_health_check : Bool)
+    : Type 0 where
+  pub owns : owns_checks ≡ owned
+  pub health_check : health_check_frequency ≡ None
+  pub update : update_frequency ≡ None
+  pub parallel : parallel_health_check ≡ false

@@ -1,10 +1,10 @@
 //! `LoadBalancer`: a balancer that threads share. Selections, updates, checks and readings need a borrow only.
-ghost use Rattle.std.specs.Prelude.{◌≡◌, [], IfOk, IfErr, OnOk, OnErr, None, unwrap_or, false};
+ghost use Rattle.std.specs.Prelude.{◌≡◌, [], IfOk, IfErr, OnOk, OnErr, unwrap_or};
 ghost use Rattle.std.specs.Arc.{arc_value};
 ghost use Rattle.lb_rebuild_core.specs.GroupCalls.{AcceptsBy};
 ghost use Rattle.lb_health_core.specs.Registry.{IsGrowthRefusal};
 ghost use Rattle.lb_balancer.specs.History.{IsServedGeneration, IsShownBy};
-ghost use Rattle.lb_balancer.specs.Made.{IsBalancerMade};
+ghost use Rattle.lb_balancer.specs.Made.{IsBalancerMade, IsNotSetYet};
 ghost use Rattle.lb_balancer.specs.Selections.{SelectsFrom};
 ghost use Rattle.lb_balancer.specs.Shown.{ShownValue};
 ghost use Rattle.lb_balancer.specs.SharedUpdates.{IsSharedRefusal, IsSharedUpdated, ReadsUpdate};
@@ -69,8 +69,8 @@ impl<
     ) -> Result<LoadBalancer<S, D, R, C>, Refusal>
         ensures made { IsBalancerMade R.gives (S.refusal []) backends.discovery backends.registry.start S.default_config result
             (λ b. b.shared) }
-        ensures parts { IfOk result (λ b. (b.owns_checks ≡ backends.owns_checks) × (b.health_check_frequency ≡ None)
-            × (b.update_frequency ≡ None) × (b.parallel_health_check ≡ false)) }
+        ensures settings { IfOk result (λ b. IsNotSetYet backends.owns_checks b.owns_checks b.health_check_frequency b.update_frequency
+            b.parallel_health_check) }
     {
         LoadBalancer::from_backends_with_config(rt, alloc, backends, None)
     }
@@ -91,8 +91,8 @@ impl<
     ) -> Result<LoadBalancer<S, D, R, C>, Refusal>
         ensures made { IsBalancerMade R.gives (S.refusal []) backends.discovery backends.registry.start
             (unwrap_or config S.default_config) result (λ b. b.shared) }
-        ensures parts { IfOk result (λ b. (b.owns_checks ≡ backends.owns_checks) × (b.health_check_frequency ≡ None)
-            × (b.update_frequency ≡ None) × (b.parallel_health_check ≡ false)) }
+        ensures settings { IfOk result (λ b. IsNotSetYet backends.owns_checks b.owns_checks b.health_check_frequency b.update_frequency
+            b.parallel_health_check) }
     {
         let owns_checks = backends.owns_checks();
         let shared = Balancing::new(rt, alloc, backends, config)?;

@@ -1,9 +1,10 @@
 //! Makes a balancer from texts. It serves its backends before threads share it, so its refusals are stated exactly.
-ghost use Rattle.std.specs.Prelude.{◌≡◌, ℕ, List, None, true, false, IfOk, IfErr};
+ghost use Rattle.std.specs.Prelude.{◌≡◌, ℕ, List, true, IfOk, IfErr};
 ghost use Rattle.std.specs.Borrow.{Bor};
 ghost use Rattle.std.specs.Iterator.{Drains, IsFinite};
 ghost use Rattle.lb_health_core.specs.Keys.{rule_gives};
 ghost use Rattle.lb_balancer_core.specs.Texts.{IsTextsRefusal};
+ghost use Rattle.lb_balancer.specs.Made.{IsNotSetYet};
 ghost use Rattle.lb_balancer.specs.Texts.{IsOfTexts, OfNew};
 
 use crate::balancing::Balancing;
@@ -51,8 +52,9 @@ impl<
         requires ends { IsFinite (I.remaining texts) }
         ensures made { IfOk result (λ b. (read : List (Bor (List ℕ))) × Drains I.next_gives texts read
             × IsOfTexts K.reads (rule_gives N.gives) read clock.old clock.new b.shared.discovery b.shared.first b.shared.registry) }
-        ensures parts { IfOk result (λ b. (b.shared.config ≡ S.default_config) × (b.shared.view_id ≡ 1) × (b.owns_checks ≡ true)
-            × (b.health_check_frequency ≡ None) × (b.update_frequency ≡ None) × (b.parallel_health_check ≡ false)) }
+        ensures parts { IfOk result (λ b. (b.shared.config ≡ S.default_config) × (b.shared.view_id ≡ 1)) }
+        ensures settings { IfOk result (λ b. IsNotSetYet true b.owns_checks b.health_check_frequency b.update_frequency
+            b.parallel_health_check) }
         ensures refused { IfErr result (λ r. (read : List (Bor (List ℕ))) × Drains I.next_gives texts read
             × OfNew (rule_gives N.gives) (λ registry.
             IsTextsRefusal (rule_gives N.gives) registry read (λ members. S.refusal members S.default_config) r)) }

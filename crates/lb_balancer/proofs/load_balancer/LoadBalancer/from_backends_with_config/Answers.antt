@@ -23,3 +23,6 @@ returns-clause-made g c =
           c.in_ok-shared.was refl;
       refused = search rules;
     }
+
+pub returns-clause-settings : goal.returns-clause-settings
+returns-clause-settings g c = record { owns = search rules; health_check = refl; update = refl; parallel = refl }

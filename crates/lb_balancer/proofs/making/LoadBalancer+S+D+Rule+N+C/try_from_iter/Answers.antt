@@ -119,8 +119,7 @@ returns-clause-parts g c =
     let first = c.in_ok-made.ensures.id by_identity [] (c.with_rule-registry.ensures by_identity (λ b k h. h)) in (
       ap (λ (b : Balancer). b.config) made,
       ap (λ (b : Balancer). b.view_id) made ∙ (c.view_id.ensures ∙ (ap (λ (s : Seen). s.view.id) same ∙ first)),
-      refl,
-      refl,
-      refl,
-      refl,
     )
+
+pub returns-clause-settings : goal.returns-clause-settings
+returns-clause-settings g c = record { owns = refl; health_check = refl; update = refl; parallel = refl }
