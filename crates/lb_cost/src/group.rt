@@ -5,8 +5,8 @@ ghost use Rattle.std.specs.Prelude.{◌≡◌, IfOk, Some, slice_get};
 ghost use Rattle.lb_rebuild_core.specs.Stands.{SameSite};
 ghost use Rattle.lb_rebuild_core.specs.Values.{configs_of};
 
-use crate::members::members;
-use crate::words::{number_at, print_line};
+use crate::members::{Weights, members};
+use crate::words::{Usage, number_at, print_line};
 use anyhow::Error;
 use lb_rebuild_core::answers::Ask;
 use lb_rebuild_core::end_source::FixedMoment;
@@ -18,9 +18,11 @@ use lb_select::least::LeastConnections;
 use lb_select_base::backend::Backend;
 use lb_select_base::moments::MomentSource;
 use lb_select_base::refusal::Refusal;
+use lb_select_base::walk::BackendSelection;
 use lb_threads_core::clock::RuntimeClock;
-use std::alloc::Global;
+use std::alloc::{AllocError, Global};
 use std::collections::BTreeSet;
+use std::io;
 use std::time::Clock;
 
 // The step after which a round ends; a round that ends before `DESTROYED` leaves its slot busy.
@@ -99,13 +101,13 @@ impl<R: Clock> Costs<R> {
 }
 
 // Asks a slot for a job; another answer is `NothingInFlight`.
-fn asked<R: Clock>(
-    group: &mut Slots<LeastConnections>,
+fn asked<S: BackendSelection, R: Clock>(
+    group: &mut Slots<S>,
     gate: &mut GateCore,
     slot: usize,
     now: u128,
     costs: &mut Costs<R>,
-) -> Result<Job<LeastConnections>, Refusal>
+) -> Result<Job<S>, Refusal>
     requires { gate.old.id ≡ group.old.gate }
     ensures gate { gate.new.id ≡ gate.old.id }
     ensures site { SameSite group.old group.new }
@@ -125,9 +127,9 @@ fn asked<R: Clock>(
 }
 
 // Gives a job back as failed.
-fn failed<R: Clock>(
-    group: &mut Slots<LeastConnections>,
-    job: Job<LeastConnections>,
+fn failed<S: BackendSelection, R: Clock>(
+    group: &mut Slots<S>,
+    job: Job<S>,
     gate: &mut GateCore,
     now: u128,
     costs: &mut Costs<R>,
@@ -148,10 +150,10 @@ fn failed<R: Clock>(
 }
 
 // Builds a job and publishes the selector, or closes it.
-fn published<R: Clock>(
+fn published<S: BackendSelection, R: Clock>(
     alloc: Global,
-    group: &mut Slots<LeastConnections>,
-    job: Job<LeastConnections>,
+    group: &mut Slots<S>,
+    job: Job<S>,
     until: u32,
     costs: &mut Costs<R>,
 ) -> Result<(), Refusal>
@@ -181,8 +183,8 @@ fn published<R: Clock>(
 }
 
 // Enters a slot and leaves it again.
-fn read<R: Clock>(
-    group: &mut Slots<LeastConnections>,
+fn read<S: BackendSelection, R: Clock>(
+    group: &mut Slots<S>,
     slot: usize,
     costs: &mut Costs<R>,
 ) -> Result<(), Refusal>
@@ -202,8 +204,8 @@ fn read<R: Clock>(
 }
 
 // Takes the retired selector out of a slot, destroys it and reports it.
-fn destroyed<R: Clock>(
-    group: &mut Slots<LeastConnections>,
+fn destroyed<S: BackendSelection, R: Clock>(
+    group: &mut Slots<S>,
     gate: &mut GateCore,
     slot: usize,
     costs: &mut Costs<R>,
@@ -226,9 +228,9 @@ fn destroyed<R: Clock>(
 }
 
 // Schedules a membership.
-fn schedule<R: Clock>(
+fn schedule<S: BackendSelection, R: Clock>(
     alloc: Global,
-    group: &mut Slots<LeastConnections>,
+    group: &mut Slots<S>,
     set: BTreeSet<Backend>,
     costs: &mut Costs<R>,
 ) -> Result<(), Refusal>
@@ -244,9 +246,9 @@ fn schedule<R: Clock>(
 }
 
 // Takes a slot through a failed build and a published one, until one of the steps above. The second ask comes after the retry's delay.
-fn round<R: Clock>(
+fn round<S: BackendSelection, R: Clock>(
     alloc: Global,
-    group: &mut Slots<LeastConnections>,
+    group: &mut Slots<S>,
     gate: &mut GateCore,
     slot: usize,
     until: u32,
@@ -277,9 +279,9 @@ fn round<R: Clock>(
 }
 
 // All rounds.
-fn rounds<R: Clock>(
+fn rounds<S: BackendSelection, R: Clock>(
     alloc: Global,
-    group: &mut Slots<LeastConnections>,
+    group: &mut Slots<S>,
     gate: &mut GateCore,
     plan: Plan,
     costs: &mut Costs<R>,
@@ -288,27 +290,62 @@ fn rounds<R: Clock>(
 {
     for number in 0..plan.rounds {
         let first = if number % 2 == 0 { 10 } else { 11 };
-        schedule(alloc, group, members(alloc, first, plan.backends)?, costs)?;
+        schedule(
+            alloc,
+            group,
+            members(alloc, first, 0, plan.backends, Weights::Same(1))?,
+            costs,
+        )?;
         let slot = number.checked_rem(plan.slots).unwrap_or(0) as usize;
         round(alloc, group, gate, slot, plan.until, costs)?;
     }
     Ok(())
 }
 
-// A group of so many slots with this gate goes through all rounds; its newest generation.
+// The configurations of so many slots.
+fn configs(alloc: Global, slots: u32) -> Result<Vec<()>, AllocError> {
+    let mut configs = Vec::new(alloc);
+    for _ in 0..slots {
+        configs.push(())?;
+    }
+    Ok(configs)
+}
+
+// A group with this gate goes through all rounds; its newest generation.
 fn measured<R: Clock>(
     alloc: Global,
     gate: &mut GateCore,
     plan: Plan,
     costs: &mut Costs<R>,
 ) -> Result<u64, Refusal> {
-    let mut configs = Vec::new(alloc);
-    for _ in 0..plan.slots {
-        configs.push(())?;
-    }
+    let configs = configs(alloc, plan.slots)?;
     let mut group: Slots<LeastConnections> = Slots::new(alloc, gate, configs)?;
     rounds(alloc, &mut group, gate, plan, costs)?;
     Ok(group.newest())
+}
+
+// The same, with a gate of its own.
+fn newest<R: Clock>(alloc: Global, plan: Plan, costs: &mut Costs<R>) -> Result<u64, Refusal> {
+    let mut gate = GateCore::new(alloc)?;
+    measured(alloc, &mut gate, plan, costs)
+}
+
+// What is measured, by these words.
+fn plan_of(numbers: &[String]) -> Result<Plan, Usage> {
+    Ok(Plan {
+        backends: number_at(numbers, 0, 10)?,
+        slots: number_at(numbers, 1, 2)?,
+        rounds: number_at(numbers, 2, 4)?,
+        until: number_at(numbers, 3, DESTROYED)?,
+    })
+}
+
+// Prints the least nanoseconds of each call.
+fn print_costs<R: Print>(rt: &R, least: &[u128; 9]) -> io::Result<()> {
+    for (call, least) in CALLS.iter().zip(least.iter()) {
+        print_line(rt, *call, *least)?;
+    }
+    Ok(())
 }
 
 /// Measures, and prints the newest generation; with a fifth word the least nanoseconds of each call too.
@@ -317,23 +354,15 @@ pub fn run<R: Clock + Print + Copy>(
     alloc: Global,
     numbers: &[String],
 ) -> Result<(), Error> {
-    let plan = Plan {
-        backends: number_at(numbers, 0, 10)?,
-        slots: number_at(numbers, 1, 2)?,
-        rounds: number_at(numbers, 2, 4)?,
-        until: number_at(numbers, 3, DESTROYED)?,
-    };
+    let plan = plan_of(numbers)?;
     let mut costs = Costs {
         clock: RuntimeClock::new(*rt),
         least: [u128::MAX; 9],
     };
-    let mut gate = GateCore::new(alloc)?;
-    let newest = measured(alloc, &mut gate, plan, &mut costs)?;
+    let newest = newest(alloc, plan, &mut costs)?;
     print_line(rt, "generation", u128::from(newest))?;
     if numbers.len() > 4 {
-        for (call, least) in CALLS.iter().zip(costs.least.iter()) {
-            print_line(rt, *call, *least)?;
-        }
+        print_costs(rt, &costs.least)?;
     }
     Ok(())
 }

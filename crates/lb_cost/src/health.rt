@@ -1,19 +1,27 @@
 //! What a registry and its view cost at a size: `health BACKENDS ROUNDS`. A round updates a view by that many backends, observes each cell,
 //! asks of each backend whether it is ready, and lists the targets. `bench/health` takes the times.
-use crate::members::members;
+use crate::members::{Weights, members};
 use crate::words::{number_at, print_line};
 use anyhow::Error;
 use lb_health_core::registry::RegistryCore;
 use lb_health_view::view::{Settings, ViewCore};
+use lb_select_base::backend::Backend;
 use lb_select_base::refusal::Refusal;
 use std::alloc::Global;
+use std::collections::BTreeSet;
+use std::io;
 
 // What a round found.
 #[derive(Clone, Copy)]
 struct Found {
-    flipped: usize,
-    ready: usize,
+    flipped: u64,
+    ready: u64,
     targets: usize,
+}
+
+// How many backends an update brings.
+fn count_of(lent: &BTreeSet<Backend>) -> usize {
+    lent.len()
 }
 
 // Updates a view by so many backends.
@@ -23,59 +31,81 @@ fn update(
     view: &mut ViewCore,
     count: u32,
 ) -> Result<(), Refusal> {
-    let set = members(alloc, 10, count)?;
-    view.update(
-        alloc,
-        registry,
-        set,
-        Settings::new(alloc),
-        |lent| lent.len(),
-    )?;
+    let set = members(alloc, 10, 0, count, Weights::Same(1))?;
+    view.update(alloc, registry, set, Settings::new(alloc), count_of)?;
     Ok(())
 }
 
-// Finds every second one unhealthy, and asks of each whether it is ready.
-fn observe(
+// Finds every second backend unhealthy; how many cells flipped.
+fn observe(registry: &mut RegistryCore, count: u32) -> Result<u64, Refusal> {
+    let mut flipped = 0u64;
+    for cell in 0..u64::from(count) {
+        let is_flipped = registry.observe(cell, cell % 2 == 0, 1)?;
+        flipped = flipped.wrapping_add(u64::from(is_flipped));
+    }
+    Ok(flipped)
+}
+
+// How many of these backends are ready.
+fn ready_in(registry: &RegistryCore, view: &ViewCore, backends: &BTreeSet<Backend>) -> u64 {
+    let mut ready = 0u64;
+    for backend in backends {
+        ready = ready.wrapping_add(u64::from(view.ready(registry, backend)));
+    }
+    ready
+}
+
+// Asks of each backend whether it is ready; how many are.
+fn ready(registry: &RegistryCore, view: &ViewCore) -> Result<u64, Refusal> {
+    let listed = view.get_backend()?;
+    Ok(ready_in(registry, view, &*listed))
+}
+
+// How many targets are listed.
+fn targets(alloc: Global, registry: &mut RegistryCore) -> Result<usize, Refusal> {
+    Ok(registry.targets(alloc)?.len())
+}
+
+// What is found of a new view of so many backends.
+fn found_in(
     alloc: Global,
     registry: &mut RegistryCore,
-    view: &ViewCore,
+    view: &mut ViewCore,
     count: u32,
 ) -> Result<Found, Refusal> {
-    let mut flipped: usize = 0;
-    for cell in 0..u64::from(count) {
-        if registry.observe(cell, cell % 2 == 0, 1)? {
-            flipped = flipped.wrapping_add(1);
-        }
-    }
-    let listed = view.get_backend()?;
-    let ready = listed
-        .iter()
-        .filter(|backend| view.ready(registry, *backend))
-        .count();
+    update(alloc, registry, view, count)?;
     Ok(Found {
-        flipped,
-        ready,
-        targets: registry.targets(alloc)?.len(),
+        flipped: observe(registry, count)?,
+        ready: ready(registry, view)?,
+        targets: targets(alloc, registry)?,
     })
+}
+
+// A round on a view of its own.
+fn round_on(alloc: Global, registry: &mut RegistryCore, count: u32) -> Result<Found, Refusal> {
+    let id = registry.register_view(alloc)?;
+    let mut view = ViewCore::new(alloc, id)?;
+    found_in(alloc, registry, &mut view, count)
 }
 
 // A round on a registry of its own.
 fn round(alloc: Global, count: u32) -> Result<Found, Refusal> {
     let mut registry = RegistryCore::new(alloc);
-    let id = registry.register_view(alloc)?;
-    let mut view = ViewCore::new(alloc, id)?;
-    update(alloc, &mut registry, &mut view, count)?;
-    observe(alloc, &mut registry, &view, count)
+    round_on(alloc, &mut registry, count)
+}
+
+// Prints what a round found.
+fn print_found<R: Print>(rt: &R, found: Found) -> io::Result<()> {
+    print_line(rt, "targets", found.targets as u128)?;
+    print_line(rt, "flipped", u128::from(found.flipped))?;
+    print_line(rt, "ready", u128::from(found.ready))
 }
 
 /// Measures, and prints what each round found.
 pub fn run<R: Print>(rt: &R, alloc: Global, numbers: &[String]) -> Result<(), Error> {
     let count = number_at(numbers, 0, 1000)?;
     for _ in 0..number_at(numbers, 1, 1)? {
-        let found = round(alloc, count)?;
-        print_line(rt, "targets", found.targets as u128)?;
-        print_line(rt, "flipped", found.flipped as u128)?;
-        print_line(rt, "ready", found.ready as u128)?;
+        print_found(rt, round(alloc, count)?)?;
     }
     Ok(())
 }

@@ -3,6 +3,7 @@
 //! is done once in a small form, whose lines are always the same.
 #![tactic(auto)]
 
+mod beside;
 mod board;
 mod group;
 mod groups;
@@ -12,14 +13,14 @@ mod passes;
 mod process;
 mod rebuilds;
 mod refused;
-mod refused_passes;
+mod refused_found;
 mod refused_subjects;
 mod selects;
 mod shared;
+mod slots;
 mod soak;
 mod soak_groups;
 mod soak_threads;
-mod starting;
 mod words;
 
 use anyhow::Error;
@@ -53,12 +54,12 @@ fn measure<
     match word {
         "board" => board::run(rt, alloc, numbers),
         "group" => group::run(rt, alloc, numbers),
-        "groups" => groups::run(rt, alloc, numbers),
+        "groups" => shared::run(rt, alloc, true, numbers),
         "health" => health::run(rt, alloc, numbers),
         "rebuilds" => rebuilds::run(rt, alloc, numbers),
         "refused" => refused::run(rt, alloc),
         "selects" => selects::run(rt, alloc),
-        "shared" => shared::run(rt, alloc, numbers),
+        "shared" => shared::run(rt, alloc, false, numbers),
         "soak" => soak::run(rt, alloc, numbers),
         _ => Err(Usage::UnknownWord)?,
     }
@@ -81,15 +82,14 @@ fn measure_all<
         + Drop
         + 'static,
 >(rt: &R, alloc: Global) -> Result<(), Error> {
-    for word in ["board", "group", "health"] {
-        measure(rt, alloc, word, &[])?;
+    for word in &["board", "group", "health", "refused"] {
+        measure(rt, alloc, *word, &[])?;
     }
-    refused::run(rt, alloc)?;
     selects::few(rt, alloc)?;
-    shared::run(rt, alloc, &[])?;
-    groups::run(rt, alloc, &[])?;
-    rebuilds::run(rt, alloc, &[])?;
-    soak::run(rt, alloc, &[])
+    for word in &["shared", "groups", "rebuilds", "soak"] {
+        measure(rt, alloc, *word, &[])?;
+    }
+    Ok(())
 }
 
 fn main(rt: HostRuntime) -> Result<(), Error> {

@@ -17,9 +17,12 @@ fn word(line: &str, place: usize) -> u64 {
     }
 }
 
-// The text of a file, without what is no text.
-fn text_of(bytes: &[u8]) -> &str {
-    str::from_utf8(bytes).unwrap_or("")
+// What follows the last of these marks in a text; nothing where there is none, or where it is no text.
+fn after<'t>(text: &'t [u8], mark: &str) -> &'t str {
+    match str::from_utf8(text).unwrap_or("").rsplit_once(mark) {
+        Some((_, rest)) => rest,
+        None => "",
+    }
 }
 
 impl Process {
@@ -27,10 +30,7 @@ impl Process {
     pub fn read<R: Files + AllocGlobal>(rt: &R) -> io::Result<Process> {
         let bytes = fs::read(rt, "/proc/self/stat")?;
         // The fields follow the name, which is in brackets.
-        let fields = match text_of(&bytes).rsplit_once(')') {
-            Some((_, fields)) => fields,
-            None => "",
-        };
+        let fields = after(&bytes, ")");
         Ok(Process {
             ticks: word(fields, 11).saturating_add(word(fields, 12)),
             threads: word(fields, 17),
@@ -41,8 +41,5 @@ impl Process {
 /// Returns how much memory of this process is resident, in KiB.
 pub fn resident<R: Files + AllocGlobal>(rt: &R) -> io::Result<u64> {
     let bytes = fs::read(rt, "/proc/self/smaps_rollup")?;
-    let line = text_of(&bytes)
-        .lines()
-        .find(|line| line.starts_with("Rss:"));
-    Ok(word(line.unwrap_or(""), 1))
+    Ok(word(after(&bytes, "Rss:"), 0))
 }

@@ -1,267 +1,209 @@
-//! Selections a second of one balancer by threads, while another thread updates it each 10 milliseconds; every other update leaves one
-//! backend out: `shared KIND BACKENDS THREADS SECONDS HOW`. The kind is `fnv`, `ketama`, `least`, `random` or `rr`; `reader`
-//! or `balancer` says how they select. `bench/groups` prints them with a plain program's.
-use crate::members::members;
+//! Selections a second from one balancer or group by threads that share it: `shared KIND BACKENDS THREADS SECONDS HOW`, `groups` with the
+//! same words. Meanwhile another thread updates it each 10 milliseconds, where every other update leaves one backend out, and flips the
+//! health of a group's backend each 100. The kind is `fnv`, `ketama`, `least`, `random` or `rr`; `reader`, and `balancer` or `group`, say
+//! how they select. The group has one slot and its worker. `bench/groups` prints them with a plain program's.
+use crate::beside::{
+    Common, Halves, Handle, LIMIT, Plan, Selects, Spent, Use, is_found, measured, select_until,
+};
+use crate::groups::measure_group;
 use crate::words::{Usage, number_at, word_at};
 use anyhow::Error;
 use lb_balancer::load_balancer::LoadBalancer;
-use lb_health_core::error::CheckError;
+use lb_balancer::reader::BalancerReader;
+use lb_crowd::crowd::NoCheck;
 use lb_health_core::health_check::HealthCheck;
-use lb_health_core::keys::Rule;
-use lb_health_view::discovery::{Discovered, DiscoverySource, ServiceDiscovery};
-use lb_health_view::view::Settings;
+use lb_health_core::keys::{KeyRule, Rule};
+use lb_health_view::discovery::{DiscoverySource, ServiceDiscovery};
+use lb_script::kinds::Kind;
 use lb_select::ketama::Consistent;
 use lb_select::least::LeastConnections;
 use lb_select::selection::{FNVHash, Random, RoundRobin};
-use lb_select_base::backend::Backend;
-use lb_select_base::moments::MomentSource;
 use lb_select_base::refusal::Refusal;
 use lb_select_base::walk::BackendSelection;
 use lb_threads_core::backends::Backends;
 use lb_threads_core::clock::RuntimeClock;
 use lb_threads_core::keyed::NoRule;
+use log::Log;
 use std::alloc::Global;
+use std::io;
 use std::sync::Wait;
-use std::sync::atomic::AtomicU64;
-use std::sync::atomic::Ordering::SeqCst;
-use std::thread;
-use std::thread::{Threads, join};
-use std::time::{Clock, Duration};
-
-// As many candidates as a selection looks at; the first is accepted, since nothing is ever down.
-pub(crate) const LIMIT: usize = 16;
-
-// How many selections a thread makes before it looks whether the measurement is over.
-pub(crate) const BATCH: u32 = 1000;
-
-// How long the updating thread sleeps between two updates, in milliseconds.
-pub(crate) const PAUSE: u64 = 10;
-
-// How a measurement goes.
-#[derive(Clone, Copy)]
-struct Plan {
-    backends: u32,
-    threads: u32,
-    seconds: u32,
-    has_reader: bool,
-}
-
-// So many backends of weight 1, in every other turn one less.
-#[derive(Drop)]
-pub(crate) struct Halves {
-    pub(crate) backends: u32,
-    pub(crate) turn: AtomicU64,
-}
-
-impl ServiceDiscovery for Halves {
-    fn discover(&self, alloc: Global) -> Result<Discovered, Refusal> {
-        let less = (self.turn.fetch_add(1, SeqCst) % 2) as u32;
-        let set = members(alloc, 10, self.backends.saturating_sub(less))?;
-        Ok((set, Settings::new(alloc)))
-    }
-}
-
-// A check that is never set.
-#[derive(Drop)]
-struct Unchecked {}
-
-impl HealthCheck for Unchecked {
-    ghost threshold = { λ _ _. 1 };
-
-    fn check(&self, _alloc: Global, _target: &Backend) -> Result<(), CheckError> {
-        Ok(())
-    }
-
-    fn health_threshold(&self, _success: bool) -> usize {
-        1
-    }
-}
+use std::sync::atomic::AtomicBool;
+use std::thread::Threads;
+use std::time::Clock;
 
 // The balancer that is measured.
-type Balancer<S> = LoadBalancer<S, Halves, Rule<NoRule>, Unchecked>;
+type Balancer<S> = LoadBalancer<S, Halves, Rule<NoRule>, NoCheck>;
 
-// The key after this one.
-pub(crate) fn next_key(key: u64) -> u64 {
-    key.wrapping_mul(6364136223846793005)
-        .wrapping_add(1442695040888963407)
-}
-
-// Selects through a reader of its own until the measurement is over; how often.
-fn by_reader<S: BackendSelection, R: Wait>(
-    rt: &R,
-    alloc: Global,
-    balancer: &Balancer<S>,
-    over: &AtomicU64,
-    worker: u64,
-) -> Result<u64, Refusal> {
-    let mut reader = balancer.reader(rt, alloc)?;
-    let mut key = worker;
-    let mut count = 0u64;
-    for _ in rt.forever() {
-        for _ in 0..BATCH {
-            key = next_key(key);
-            let found = reader.select(rt, alloc, &key.to_le_bytes(), LIMIT)?;
-            count = count.wrapping_add(u64::from(found.is_some()));
-        }
-        if over.load(SeqCst) > 0 {
-            break;
-        }
+impl<
+    'b,
+    S: BackendSelection,
+    D: ServiceDiscovery + Drop,
+    R: KeyRule + Drop,
+    C: HealthCheck + Drop,
+> Selects for BalancerReader<'b, S, D, R, C> {
+    fn finds<W: Wait>(&mut self, rt: &W, alloc: Global, key: &[u8]) -> Result<bool, Refusal> {
+        Ok(is_found(self.select(rt, alloc, key, LIMIT)?))
     }
-    Ok(count)
 }
 
-// Selects through the balancer itself until the measurement is over; how often.
-fn by_balancer<S: BackendSelection, R: Wait>(
-    rt: &R,
-    alloc: Global,
-    balancer: &Balancer<S>,
-    over: &AtomicU64,
-    worker: u64,
-) -> Result<u64, Refusal> {
-    let mut key = worker;
-    let mut count = 0u64;
-    for _ in rt.forever() {
-        for _ in 0..BATCH {
-            key = next_key(key);
-            let found = balancer.select(rt, alloc, &key.to_le_bytes(), LIMIT)?;
-            count = count.wrapping_add(u64::from(found.is_some()));
-        }
-        if over.load(SeqCst) > 0 {
-            break;
-        }
+impl<
+    'h,
+    S: BackendSelection,
+    D: ServiceDiscovery + Drop,
+    R: KeyRule + Drop,
+    C: HealthCheck + Drop,
+> Selects for Handle<'h, LoadBalancer<S, D, R, C>> {
+    fn finds<W: Wait>(&mut self, rt: &W, alloc: Global, key: &[u8]) -> Result<bool, Refusal> {
+        Ok(is_found(self.shared.select(rt, alloc, key, LIMIT)?))
     }
-    Ok(count)
 }
 
-// Updates once, and then each 10 milliseconds for so many seconds; how long that was, in nanoseconds. The measurement is over then.
-fn updated<S: BackendSelection, R: Wait + Clock + Copy>(
-    rt: &R,
-    alloc: Global,
-    balancer: &Balancer<S>,
-    over: &AtomicU64,
-    seconds: u32,
-) -> Result<u128, Refusal> {
-    let mut clock = RuntimeClock::new(*rt);
-    let start = clock.now();
-    let mut answer = Ok(());
-    let mut spent = 0;
-    for _ in rt.forever() {
-        answer = balancer.update(rt, alloc, &mut clock);
-        spent = clock.now().saturating_sub(start);
-        if answer.is_err() || spent >= u128::from(seconds) * 1_000_000_000 {
-            break;
-        }
-        thread::sleep(rt, Duration::from_millis(PAUSE));
+impl<
+    S: BackendSelection,
+    D: ServiceDiscovery + Drop,
+    R: KeyRule + Drop,
+    C: HealthCheck + Drop,
+> Common for LoadBalancer<S, D, R, C> {
+    fn change<W: Log + Threads + Wait + Clock + Copy + Sync>(
+        &self,
+        rt: &W,
+        alloc: Global,
+        _used: Use,
+        _turn: u64,
+    ) -> Result<(), Refusal> {
+        self.update(rt, alloc, &mut RuntimeClock::new(*rt))
     }
-    over.store(1, SeqCst);
-    answer?;
-    Ok(spent)
+
+    fn select_all<W: Wait + Clock>(
+        &self,
+        rt: &W,
+        alloc: Global,
+        used: Use,
+        number: u64,
+        over: &AtomicBool,
+    ) -> Result<u64, Refusal> {
+        if used == Use::Reader {
+            let mut reader = self.reader(rt, alloc)?;
+            return select_until(rt, alloc, &mut reader, number, over);
+        }
+        select_until(rt, alloc, &mut Handle { shared: self }, number, over)
+    }
 }
 
-// A balancer over so many backends, updated once.
-fn made<S: BackendSelection, R: Wait + Clock + Copy>(
-    rt: &R,
+// A balancer over so many backends.
+fn balancer_of<S: BackendSelection, W: Wait>(
+    rt: &W,
     alloc: Global,
-    plan: Plan,
+    backends: u32,
 ) -> Result<Balancer<S>, Refusal> {
-    let discovery = Halves {
-        backends: plan.backends,
-        turn: AtomicU64::new(0),
-    };
-    let backends = Backends::new(rt, alloc, DiscoverySource::Boxed(discovery))?;
-    let balancer = LoadBalancer::from_backends(rt, alloc, backends)?;
-    updated(rt, alloc, &balancer, &AtomicU64::new(0), 0)?;
-    Ok(balancer)
+    let discovery = DiscoverySource::Boxed(Halves::new(backends));
+    let found = Backends::new(rt, alloc, discovery)?;
+    LoadBalancer::from_backends(rt, alloc, found)
 }
 
-// Selections of a thread until the measurement is over, by keys of its own; how many.
-fn selected<S: BackendSelection, R: Wait>(
-    rt: &R,
-    alloc: Global,
-    balancer: &Balancer<S>,
-    over: &AtomicU64,
-    plan: Plan,
-    worker: u64,
-) -> Result<u64, Refusal> {
-    if plan.has_reader {
-        by_reader(rt, alloc, balancer, over, worker)
+// Measures a new balancer, which was updated once.
+fn measure_balancer<
+    S: BackendSelection + Send + Sync,
+    W: Log + Threads + Wait + Clock + Copy + Sync,
+>(rt: &W, alloc: Global, plan: Plan) -> Result<Spent, Refusal>
+where
+    S::Config: Send + Sync,
+    S::Walk: Send + Sync,
+{
+    let balancer: Balancer<S> = balancer_of(rt, alloc, plan.backends)?;
+    balancer.update(rt, alloc, &mut RuntimeClock::new(*rt))?;
+    measured(rt, alloc, &balancer, plan)
+}
+
+// Measures a group or a balancer.
+fn measure<
+    S: BackendSelection + Send + Sync + 'static,
+    W: Log + Threads + Wait + Clock + Copy + Send + Sync + 'static,
+>(rt: &W, alloc: Global, is_group: bool, plan: Plan) -> Result<Spent, Refusal>
+where
+    S::Config: Send + Sync + 'static,
+    S::Walk: Send + Sync + 'static,
+{
+    if is_group {
+        measure_group::<S, W>(rt, alloc, 1, plan)
     } else {
-        by_balancer(rt, alloc, balancer, over, worker)
+        measure_balancer::<S, W>(rt, alloc, plan)
     }
 }
 
-fn sum(counts: Vec<Result<u64, Refusal>>) -> Result<u64, Refusal> {
-    let mut sum = 0u64;
-    for count in counts {
-        sum = sum.wrapping_add(count?);
+// Measures one of this kind.
+fn measure_kind<W: Log + Threads + Wait + Clock + Copy + Send + Sync + 'static>(
+    rt: &W,
+    alloc: Global,
+    kind: Kind,
+    is_group: bool,
+    plan: Plan,
+) -> Result<Spent, Refusal> {
+    match kind {
+        Kind::Fnv => measure::<FNVHash, W>(rt, alloc, is_group, plan),
+        Kind::Ketama => measure::<Consistent, W>(rt, alloc, is_group, plan),
+        Kind::Least => measure::<LeastConnections, W>(rt, alloc, is_group, plan),
+        Kind::Random => measure::<Random, W>(rt, alloc, is_group, plan),
+        Kind::RoundRobin => measure::<RoundRobin, W>(rt, alloc, is_group, plan),
     }
-    Ok(sum)
 }
 
-// Selections of all threads; how many.
-fn all_selected<S: BackendSelection + Send + Sync, R: Threads + Wait + Sync>(
-    rt: &R,
-    alloc: Global,
-    balancer: &Balancer<S>,
-    over: &AtomicU64,
-    plan: Plan,
-) -> Result<u64, Refusal>
-where
-    S::Config: Send + Sync,
-    S::Walk: Send + Sync,
-{
-    let selects = |worker: usize| selected(rt, alloc, balancer, over, plan, worker as u64);
-    let counts = thread::map_indices(rt, alloc, plan.threads as usize, &selects)?;
-    sum(counts)
+// The kind that a word names.
+fn kind_of(word: &str) -> Result<Kind, Usage> {
+    match word {
+        "fnv" => Ok(Kind::Fnv),
+        "ketama" => Ok(Kind::Ketama),
+        "least" => Ok(Kind::Least),
+        "random" => Ok(Kind::Random),
+        "rr" => Ok(Kind::RoundRobin),
+        _ => Err(Usage::UnknownKind),
+    }
 }
 
-// Selections of all threads from a new balancer that another thread updates meanwhile; how many, and how long that took, in nanoseconds.
-fn measured<S: BackendSelection + Send + Sync, R: Threads + Wait + Clock + Copy + Sync>(
-    rt: &R,
-    alloc: Global,
-    plan: Plan,
-) -> Result<(u64, u128), Refusal>
-where
-    S::Config: Send + Sync,
-    S::Walk: Send + Sync,
-{
-    let balancer: Balancer<S> = made(rt, alloc, plan)?;
-    let over = AtomicU64::new(0);
-    let (count, spent) = join(
-        rt,
-        || all_selected(rt, alloc, &balancer, &over, plan),
-        || updated(rt, alloc, &balancer, &over, plan.seconds),
-    );
-    Ok((count?, spent?))
-}
-
-/// Measures, and prints selections a second; in no seconds, that there were some.
-pub fn run<R: Threads + Wait + Clock + Print + Copy + Sync>(
-    rt: &R,
-    alloc: Global,
-    words: &[String],
-) -> Result<(), Error> {
-    let plan = Plan {
+// How a measurement goes by these words. A balancer's threads select by readers unless the last word says otherwise, a group's don't.
+fn plan_of(is_group: bool, words: &[String]) -> Result<Plan, Usage> {
+    let is_by_reader = if is_group {
+        word_at(words, 4, "group") == "reader"
+    } else {
+        word_at(words, 4, "reader") != "balancer"
+    };
+    Ok(Plan {
         backends: number_at(words, 1, 10)?,
         threads: number_at(words, 2, 1)?,
+        used: if is_by_reader {
+            Use::Reader
+        } else {
+            Use::Handle
+        },
         seconds: number_at(words, 3, 0)?,
-        has_reader: word_at(words, 4, "reader") != "balancer",
-    };
-    let (count, spent) = match word_at(words, 0, "fnv") {
-        "fnv" => measured::<FNVHash, R>(rt, alloc, plan)?,
-        "ketama" => measured::<Consistent, R>(rt, alloc, plan)?,
-        "least" => measured::<LeastConnections, R>(rt, alloc, plan)?,
-        "random" => measured::<Random, R>(rt, alloc, plan)?,
-        "rr" => measured::<RoundRobin, R>(rt, alloc, plan)?,
-        _ => return Err(Usage::UnknownKind)?,
-    };
+        turns: 1,
+    })
+}
+
+// Prints selections a second; in no seconds, that there were some.
+fn print_spent<W: Print>(rt: &W, is_group: bool, plan: Plan, spent: Spent) -> io::Result<()> {
+    let count = spent.selections;
     if plan.seconds == 0 {
+        let what = if is_group { "a group, " } else { "" };
         let (backends, threads, is_many) = (plan.backends, plan.threads, count >= 1000);
         println!(rt;
-            "{backends} backends, {threads} threads: at least 1000 selections: {is_many}"
-        )?;
+            "{what}{backends} backends, {threads} threads: at least 1000 selections: {is_many}"
+        )
     } else {
-        println!(rt; "{}", u128::from(count) * 1_000_000_000 / spent.max(1))?;
+        let rate = u128::from(count) * 1_000_000_000 / spent.whole.max(1);
+        println!(rt; "{rate}")
     }
-    Ok(())
+}
+
+/// Measures, and prints what was found.
+pub fn run<W: Log + Threads + Wait + Clock + Print + Copy + Send + Sync + 'static>(
+    rt: &W,
+    alloc: Global,
+    is_group: bool,
+    words: &[String],
+) -> Result<(), Error> {
+    let plan = plan_of(is_group, words)?;
+    let kind = kind_of(word_at(words, 0, "fnv"))?;
+    let spent = measure_kind(rt, alloc, kind, is_group, plan)?;
+    Ok(print_spent(rt, is_group, plan, spent)?)
 }

@@ -5,17 +5,21 @@
 //! goes on.
 use crate::passes::pass;
 use crate::process::{Process, resident};
-use crate::soak_groups::{Flips, Groups, Registry, Site, settles, starts, stir};
-use crate::soak_threads::{Tally, joined, start_user};
+use crate::soak_groups::{
+    Handle, Side, Sides, add_groups, builds_and_flips, leave, settles, side_of, starts, stir,
+};
+use crate::soak_threads::{Tally, Users, joined, start_user};
 use crate::words::number_at;
 use anyhow::Error;
+use lb_balancer_group::group::LoadBalancerGroup;
+use lb_health_core::health_check::HealthCheck;
+use lb_health_core::keys::KeyRule;
+use lb_health_view::discovery::ServiceDiscovery;
 use lb_select_base::refusal::Refusal;
-use lb_threads_core::gate::SelectorRebuildGate;
-use lb_threads_core::registry::HealthRegistry;
+use lb_select_base::walk::BackendSelection;
 use log::Log;
 use std::alloc::Global;
 use std::rt::Files;
-use std::sync::atomic::AtomicU64;
 use std::sync::atomic::Ordering::SeqCst;
 use std::sync::{Arc, Wait};
 use std::thread::Threads;
@@ -36,13 +40,13 @@ const IDLE: u64 = 10;
 const IDLE_TICKS: u64 = 10;
 
 // What went wrong.
-#[derive(Clone, Copy, Debug, PartialEq, Eq, thiserror::Error)]
+#[derive(Clone, Copy, Debug, thiserror::Error)]
 enum Fault {
     #[error("a worker couldn't be started")]
     Unstarted,
     #[error("an answer was wrong, a call was refused, or a reading fell")]
     Wrong,
-    #[error("of what groups leave one isn't right, in the order of Groups::leave: {0:?}")]
+    #[error("of what groups leave one isn't right, in the order of leave: {0:?}")]
     Left([bool; 5]),
     #[error("{0} threads are left")]
     Threads(u64),
@@ -57,96 +61,130 @@ enum Fault {
 struct Done {
     rounds: u64,
     turns: u64,
-    builds: u64,
     after_a_minute: u64,
+}
+
+impl Done {
+    // Notes a round of so many turns.
+    fn note(&mut self, turns: u64) {
+        self.rounds = self.rounds.saturating_add(1);
+        self.turns = self.turns.saturating_add(turns);
+    }
 }
 
 // Starts the workers of all groups.
 fn all_start<W: Log + Threads + Wait + Clock + Copy + Send + Sync + Drop + 'static>(
     rt: &W,
     alloc: Global,
-    groups: &Groups<W>,
+    groups: &[Arc<Handle<W>>],
 ) -> Result<(), Fault> {
-    let mut are_started = starts(rt, alloc, &*groups.random);
-    for group in &groups.chosen {
-        are_started &= starts(rt, alloc, &**group);
+    for group in groups {
+        if !starts(rt, alloc, &**group) {
+            return Err(Fault::Unstarted);
+        }
     }
-    if are_started {
-        Ok(())
-    } else {
-        Err(Fault::Unstarted)
-    }
+    Ok(())
 }
 
-// Updates one of the groups, in turn, and now and then checks the targets of a registry, in turn too.
+// Updates one of the groups, in turn, and now and then checks the targets of a registry, in turn too: one by one, or all at once.
 fn happens<W: Log + Threads + Wait + Clock + Copy + Send + Sync + Drop>(
     rt: &W,
     alloc: Global,
-    site: &Site,
-    groups: &Groups<W>,
+    sides: &Sides<W>,
+    groups: &[Arc<Handle<W>>],
     turn: u64,
 ) -> Result<(), Refusal> {
-    let place = (turn % 4) as usize;
-    match groups.chosen.get(place) {
-        Some(group) => stir(rt, alloc, &**group, turn)?,
-        None => stir(rt, alloc, &*groups.random, turn)?,
+    if let Some(group) = groups.get((turn % 4) as usize) {
+        stir(rt, alloc, &**group, turn)?;
     }
-    let [registry, other] = &site.registries;
-    match turn % 16 {
-        3 => pass(rt, alloc, registry, false),
-        7 => pass(rt, alloc, other, false),
-        11 => pass(rt, alloc, registry, true),
-        15 => pass(rt, alloc, other, true),
-        _ => Ok(()),
+    if turn % 4 != 3 {
+        return Ok(());
     }
+    let side = side_of(sides, turn % 8 == 7);
+    pass(rt, alloc, &*side.registry, turn % 16 > 8)
+}
+
+// Cancels one group on each gate.
+fn cancel_two<
+    S: BackendSelection,
+    D: ServiceDiscovery + Drop,
+    R: KeyRule + Drop,
+    C: HealthCheck + Drop,
+    W: Wait + Clock,
+>(rt: &W, groups: &[Arc<LoadBalancerGroup<S, D, R, C>>]) {
+    for place in &[1, 3] {
+        if let Some(group) = groups.get(*place) {
+            group.cancel(rt);
+        }
+    }
+    thread::sleep(rt, Duration::from_millis(10 * PAUSE));
 }
 
 // All updates of a round. Two groups are cancelled then, or none.
 fn stirred<W: Log + Threads + Wait + Clock + Copy + Send + Sync + Drop>(
     rt: &W,
     alloc: Global,
-    site: &Site,
-    groups: &Groups<W>,
+    sides: &Sides<W>,
+    groups: &[Arc<Handle<W>>],
     is_cancelled: bool,
 ) -> Result<(), Refusal> {
     for turn in 0..UPDATES {
-        happens(rt, alloc, site, groups, turn)?;
+        happens(rt, alloc, sides, groups, turn)?;
         thread::sleep(rt, Duration::from_millis(PAUSE));
     }
     if is_cancelled {
-        groups.cancel_two(rt);
-        thread::sleep(rt, Duration::from_millis(10 * PAUSE));
+        cancel_two(rt, groups);
     }
     Ok(())
 }
 
-// Threads use the groups while all of a round happens. Returns how many turns they took.
+// Starts a thread for each group that uses it, and lets all of a round happen.
+fn shared_out<W: Log + Threads + Wait + Clock + Copy + Send + Sync + Drop + 'static>(
+    rt: &W,
+    alloc: Global,
+    sides: &Sides<W>,
+    groups: &[Arc<Handle<W>>],
+    is_cancelled: bool,
+    tally: &Arc<Tally>,
+    users: &mut Users,
+) -> Result<(), Refusal> {
+    for group in groups {
+        users.push(start_user(rt, alloc, group, tally))?;
+    }
+    stirred(rt, alloc, sides, groups, is_cancelled)
+}
+
+// Threads use the groups while all of a round happens.
 fn used<W: Log + Threads + Wait + Clock + Copy + Send + Sync + Drop + 'static>(
     rt: &W,
     alloc: Global,
-    site: &Site,
-    groups: &Groups<W>,
+    sides: &Sides<W>,
+    groups: &[Arc<Handle<W>>],
     is_cancelled: bool,
-) -> Result<u64, Error> {
+    tally: &Arc<Tally>,
+) -> Result<(), Error> {
     all_start(rt, alloc, groups)?;
-    let tally = Arc::new(alloc, Tally::new())?;
-    let [first, second, third] = &groups.chosen;
-    let users = [
-        start_user(rt, alloc, first, &tally),
-        start_user(rt, alloc, second, &tally),
-        start_user(rt, alloc, third, &tally),
-        start_user(rt, alloc, &groups.random, &tally),
-    ];
-    let stirred = stirred(rt, alloc, site, groups, is_cancelled);
+    let mut users = Vec::new(alloc);
+    let told = shared_out(rt, alloc, sides, groups, is_cancelled, tally, &mut users);
     tally.over.store(true, SeqCst);
-    let mut are_right = true;
-    for user in users {
-        are_right &= joined(rt, user);
-    }
-    stirred?;
+    let are_right = joined(rt, users);
+    told?;
     if !are_right {
         Err(Fault::Wrong)?;
     }
+    Ok(())
+}
+
+// The same, with a tally of its own. Returns how many turns the threads took.
+fn turns<W: Log + Threads + Wait + Clock + Copy + Send + Sync + Drop + 'static>(
+    rt: &W,
+    alloc: Global,
+    sides: &Sides<W>,
+    groups: &[Arc<Handle<W>>],
+    is_cancelled: bool,
+) -> Result<u64, Error> {
+    let tally = Arc::new(alloc, Tally::new())?;
+    used(rt, alloc, sides, groups, is_cancelled, &tally)?;
     Ok(tally.turns.load(SeqCst))
 }
 
@@ -154,10 +192,10 @@ fn used<W: Log + Threads + Wait + Clock + Copy + Send + Sync + Drop + 'static>(
 fn left<W: Wait + Clock + Copy + Drop>(
     rt: &W,
     alloc: Global,
-    site: &Site,
-    groups: Groups<W>,
+    sides: &Sides<W>,
+    groups: Vec<Arc<Handle<W>>>,
 ) -> Result<(), Error> {
-    let left = groups.leave(rt, alloc, site)?;
+    let left = leave(rt, alloc, sides, groups)?;
     if left != [true; 5] {
         Err(Fault::Left(left))?;
     }
@@ -168,36 +206,48 @@ fn left<W: Wait + Clock + Copy + Drop>(
 fn round<W: Log + Threads + Wait + Clock + Copy + Send + Sync + Drop + 'static>(
     rt: &W,
     alloc: Global,
-    site: &Site,
+    sides: &Sides<W>,
     done: &mut Done,
 ) -> Result<(), Error> {
-    let groups = Groups::new(*rt, alloc, site)?;
-    let turns = used(rt, alloc, site, &groups, done.rounds % 2 == 0)?;
-    done.rounds = done.rounds.saturating_add(1);
-    done.turns = done.turns.saturating_add(turns);
-    done.builds = done.builds.saturating_add(groups.builds());
-    left(rt, alloc, site, groups)
+    let mut groups = Vec::new(alloc);
+    add_groups(rt, alloc, sides, &mut groups)?;
+    let is_cancelled = done.rounds % 2 == 0;
+    done.note(turns(rt, alloc, sides, groups.as_slice(), is_cancelled)?);
+    left(rt, alloc, sides, groups)
+}
+
+// Has groups serve what they are updated to.
+fn served<W: Log + Threads + Wait + Clock + Copy + Send + Sync + Drop + 'static>(
+    rt: &W,
+    alloc: Global,
+    groups: &[Arc<Handle<W>>],
+) -> Result<(), Error> {
+    all_start(rt, alloc, groups)?;
+    for group in groups {
+        stir(rt, alloc, &**group, 0)?;
+        if !settles(rt, &**group) {
+            Err(Fault::Wrong)?;
+        }
+    }
+    Ok(())
+}
+
+// How much processor time is taken in ten seconds, in hundredths of a second.
+fn taken<W: Clock + Files + AllocGlobal>(rt: &W) -> io::Result<u64> {
+    let before = Process::read(rt)?.ticks;
+    thread::sleep(rt, Duration::from_secs(IDLE));
+    Ok(Process::read(rt)?.ticks.saturating_sub(before))
 }
 
 // Groups that serve what they were updated to, and in which nothing happens for ten seconds.
 fn idle<
     W: Log + Threads + Wait + Clock + Files + AllocGlobal + Copy + Send + Sync + Drop + 'static,
->(rt: &W, alloc: Global, site: &Site) -> Result<(), Error> {
-    let groups = Groups::new(*rt, alloc, site)?;
-    all_start(rt, alloc, &groups)?;
-    let mut are_served = true;
-    for group in &groups.chosen {
-        stir(rt, alloc, &**group, 0)?;
-        are_served &= settles(rt, &**group);
-    }
-    stir(rt, alloc, &*groups.random, 0)?;
-    if !are_served || !settles(rt, &*groups.random) {
-        Err(Fault::Wrong)?;
-    }
-    let before = Process::read(rt)?.ticks;
-    thread::sleep(rt, Duration::from_secs(IDLE));
-    let taken = Process::read(rt)?.ticks.saturating_sub(before);
-    left(rt, alloc, site, groups)?;
+>(rt: &W, alloc: Global, sides: &Sides<W>) -> Result<(), Error> {
+    let mut groups = Vec::new(alloc);
+    add_groups(rt, alloc, sides, &mut groups)?;
+    served(rt, alloc, groups.as_slice())?;
+    let taken = taken(rt)?;
+    left(rt, alloc, sides, groups)?;
     if taken >= IDLE_TICKS {
         Err(Fault::Busy(taken))?;
     }
@@ -215,10 +265,10 @@ fn print_done<W: Print>(
     rt: &W,
     seconds: u64,
     done: &Done,
-    flips: u64,
+    (builds, flips): (u64, u64),
     resident: u64,
 ) -> io::Result<()> {
-    let (rounds, turns, builds) = (done.rounds, done.turns, done.builds);
+    let (rounds, turns) = (done.rounds, done.turns);
     println!(rt;
         "{seconds} seconds: {rounds} rounds, {turns} turns of threads, {builds} builds, {flips} flips, {resident} KiB"
     )
@@ -238,17 +288,16 @@ fn rounds<
         + Sync
         + Drop
         + 'static,
->(rt: &W, alloc: Global, site: &Site, seconds: u64) -> Result<Done, Error> {
+>(rt: &W, alloc: Global, sides: &Sides<W>, seconds: u64) -> Result<Done, Error> {
     let begun = rt.monotonic().unwrap_or(Duration::from_secs(0));
     let mut minutes = 0;
     let mut done = Done {
         rounds: 0,
         turns: 0,
-        builds: 0,
         after_a_minute: 0,
     };
     for _ in rt.forever() {
-        round(rt, alloc, site, &mut done)?;
+        round(rt, alloc, sides, &mut done)?;
         let passed = seconds_since(rt, begun);
         if passed / MINUTE > minutes {
             minutes = passed / MINUTE;
@@ -256,7 +305,7 @@ fn rounds<
             if done.after_a_minute == 0 {
                 done.after_a_minute = now;
             }
-            print_done(rt, passed, &done, site.flipped.load(SeqCst), now)?;
+            print_done(rt, passed, &done, builds_and_flips(sides), now)?;
         }
         if passed >= seconds {
             break;
@@ -292,13 +341,13 @@ fn soaked<
         + Sync
         + Drop
         + 'static,
->(rt: &W, alloc: Global, site: &Site, seconds: u64) -> Result<(), Error> {
-    let done = rounds(rt, alloc, site, seconds)?;
+>(rt: &W, alloc: Global, sides: &Sides<W>, seconds: u64) -> Result<(), Error> {
+    let done = rounds(rt, alloc, sides, seconds)?;
     println!(rt; "no answer was wrong, and every permit is back")?;
     remains(rt)?;
     let at_the_end = resident(rt)?;
     println!(rt; "no thread is left")?;
-    idle(rt, alloc, site)?;
+    idle(rt, alloc, sides)?;
     remains(rt)?;
     println!(rt; "idle groups take less than a hundredth of a processor")?;
     if seconds < 2 * MINUTE {
@@ -310,15 +359,6 @@ fn soaked<
     }
     println!(rt; "resident: {before} KiB after a minute, {at_the_end} at the end")?;
     Ok(())
-}
-
-// A registry with its check.
-fn checked<W: Wait>(rt: &W, registry: &Registry, flipped: &Arc<AtomicU64>) -> Result<(), Refusal> {
-    let check = Flips {
-        asked: AtomicU64::new(0),
-        flipped: Arc::try_clone(flipped)?,
-    };
-    registry.set_health_check(rt, check)
 }
 
 /// Goes on for so many seconds, or until something is wrong.
@@ -337,19 +377,6 @@ pub fn run<
         + 'static,
 >(rt: &W, alloc: Global, numbers: &[String]) -> Result<(), Error> {
     let seconds = u64::from(number_at(numbers, 0, 10)?);
-    let site = Site {
-        gates: [
-            Arc::new(alloc, SelectorRebuildGate::new(alloc)?)?,
-            Arc::new(alloc, SelectorRebuildGate::new(alloc)?)?,
-        ],
-        registries: [
-            Arc::new(alloc, HealthRegistry::new(alloc)?)?,
-            Arc::new(alloc, HealthRegistry::new(alloc)?)?,
-        ],
-        flipped: Arc::new(alloc, AtomicU64::new(0))?,
-    };
-    for registry in &site.registries {
-        checked(rt, &**registry, &site.flipped)?;
-    }
-    soaked(rt, alloc, &site, seconds)
+    let sides = [Side::new(rt, alloc)?, Side::new(rt, alloc)?];
+    soaked(rt, alloc, &sides, seconds)
 }

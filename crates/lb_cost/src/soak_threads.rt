@@ -2,6 +2,7 @@
 ghost use Rattle.std.specs.Prelude.{◌≡◌};
 ghost use Rattle.std.specs.Arc.{arc_value};
 
+use crate::members::any;
 use crate::soak_groups::MEMBERS;
 use lb_balancer_group::group::LoadBalancerGroup;
 use lb_health_core::health_check::HealthCheck;
@@ -75,13 +76,18 @@ fn generation_of(backend: &Backend) -> u64 {
     }
 }
 
-// Whether a backend was found that is of one of these generations. None is found in generation 0, and where none is ready.
-fn is_within(found: &Option<Backend>, least: u64, most: u64) -> bool {
+// The generation of what was found.
+fn generation_found(found: Option<Backend>) -> Option<u64> {
+    match &found {
+        Some(backend) => Some(generation_of(backend)),
+        None => None,
+    }
+}
+
+// Whether what was found is of one of these generations. None is found in generation 0, and where none is ready.
+fn is_within(found: Option<u64>, least: u64, most: u64) -> bool {
     match found {
-        Some(backend) => {
-            let generation = generation_of(backend);
-            least <= generation && generation <= most && generation > 0
-        }
+        Some(generation) => least <= generation && generation <= most && generation > 0,
         None => true,
     }
 }
@@ -99,6 +105,11 @@ fn reads<S: BackendSelection, D: ServiceDiscovery + Drop, R: KeyRule + Drop, C: 
     let served = group.selector_generation_as(slot, pass).unwrap_or(0);
     let newest = group.backend_generation_as(pass);
     read.note(slot, newest, served)
+}
+
+// The generation of what was found, where no memory was refused.
+fn told(found: Result<Option<Backend>, Refusal>) -> Result<Option<u64>, Refusal> {
+    Ok(generation_found(found?))
 }
 
 // Selects by a reader of a slot, which stays for some milliseconds or doesn't. Returns whether what was found is of the reader's
@@ -122,17 +133,16 @@ fn by_reader<
 {
     let reader = group.enter_as(rt, slot, pass)?;
     let generation = reader.generation();
-    let any = |_backend: &Backend| true;
-    let found = group.select_in(rt, alloc, &reader, &turn.to_le_bytes(), LIMIT, &any);
+    let found = told(group.select_in(rt, alloc, &reader, &turn.to_le_bytes(), LIMIT, &any));
     if turn % STAYS_EACH == 0 {
         thread::sleep(rt, Duration::from_millis(STAYS_MILLIS));
     }
     group.leave(rt, reader);
     let found = found?;
-    Ok(found.is_some() == (generation > 0) && is_within(&found, generation, generation))
+    Ok(found.is_some() == (generation > 0) && is_within(found, generation, generation))
 }
 
-// Selects by the handle, or every other time by a reader of it with a lane of its own.
+// Selects by the handle, or every other time by a reader of it with a lane of its own; the generation of what was found.
 fn selected<
     S: BackendSelection,
     D: ServiceDiscovery + Drop,
@@ -145,12 +155,12 @@ fn selected<
     group: &LoadBalancerGroup<S, D, R, C>,
     slot: usize,
     turn: u64,
-) -> Result<Option<Backend>, Refusal> {
+) -> Result<Option<u64>, Refusal> {
     let key = turn.to_le_bytes();
     if turn / 2 % 2 == 0 {
-        group.select(rt, alloc, slot, &key, LIMIT)
+        told(group.select(rt, alloc, slot, &key, LIMIT))
     } else {
-        group.reader().select(rt, alloc, slot, &key, LIMIT)
+        told(group.reader().select(rt, alloc, slot, &key, LIMIT))
     }
 }
 
@@ -181,8 +191,9 @@ fn is_right<
     let found = selected(rt, alloc, group, slot, turn)?;
     group.meet(rt, pass, other);
     let after = reads(group, slot, other, read);
-    let by_handle = is_within(&found, least, read.newest);
-    Ok(before && after && by_handle && by_reader(rt, alloc, group, slot, other, turn)?)
+    let by_handle = is_within(found, least, read.newest);
+    let by_reader = by_reader(rt, alloc, group, slot, other, turn)?;
+    Ok(before & after & by_handle & by_reader)
 }
 
 // Uses a group, a turn each millisecond, until the threads are to end. Returns whether each turn was right.
@@ -238,10 +249,17 @@ where
     started.ok()
 }
 
-/// Returns what a thread answered; `false` where none was started.
-pub fn joined<W: Threads>(rt: &W, user: Option<JoinHandle<bool>>) -> bool {
-    match user {
-        Some(user) => user.join(rt),
-        None => false,
+/// The threads that use groups; none where one couldn't be started.
+pub type Users = Vec<Option<JoinHandle<bool>>>;
+
+/// Returns whether each thread could be started and found all right, once all have ended.
+pub fn joined<W: Threads>(rt: &W, users: Users) -> bool {
+    let mut are_right = true;
+    for user in users {
+        are_right &= match user {
+            Some(user) => user.join(rt),
+            None => false,
+        };
     }
+    are_right
 }

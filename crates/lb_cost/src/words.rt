@@ -3,7 +3,7 @@ use std::io;
 use thiserror::Error;
 
 /// Why there is nothing to measure.
-#[derive(Clone, Copy, Debug, PartialEq, Eq, Error)]
+#[derive(Clone, Copy, Debug, Error)]
 pub enum Usage {
     #[error("usage: lb_cost [board | group | groups | health | rebuilds | refused | selects | shared | soak] [WORD ..]")]
     UnknownWord,
@@ -17,9 +17,12 @@ pub enum Usage {
 
 /// Returns the number at a place, and this one where there is no word. Refused `NoNumber` where the word is no number.
 pub fn number_at(numbers: &[String], place: usize, default: u32) -> Result<u32, Usage> {
-    match numbers.get(place) {
-        Some(text) => text.as_str().parse().map_err(|_| Usage::NoNumber),
-        None => Ok(default),
+    let Some(text) = numbers.get(place) else {
+        return Ok(default);
+    };
+    match text.as_str().parse() {
+        Ok(number) => Ok(number),
+        Err(_) => Err(Usage::NoNumber),
     }
 }
 

@@ -1,0 +1,268 @@
+//! Threads that use one balancer or group, while another thread changes it in turns. The words `shared`, `groups` and `rebuilds` print what
+//! is found.
+use crate::members::{Weights, members};
+use lb_health_view::discovery::{Discovered, ServiceDiscovery};
+use lb_health_view::view::Settings;
+use lb_select_base::moments::MomentSource;
+use lb_select_base::refusal::Refusal;
+use lb_threads_core::clock::RuntimeClock;
+use log::Log;
+use std::alloc::Global;
+use std::sync::Wait;
+use std::sync::atomic::Ordering::SeqCst;
+use std::sync::atomic::{AtomicBool, AtomicU64};
+use std::thread;
+use std::thread::{Threads, join};
+use std::time::{Clock, Duration};
+
+/// As many candidates as a selection looks at; the first ready one is accepted.
+pub const LIMIT: usize = 16;
+
+// How many selections a thread makes before it looks whether the measurement is over.
+const BATCH: u32 = 1000;
+
+// How long the changing thread sleeps between two turns, in milliseconds.
+const PAUSE: u64 = 10;
+
+/// So many backends of weight 1, in every other turn one less.
+#[derive(Drop)]
+pub struct Halves {
+    backends: u32,
+    turn: AtomicU64,
+}
+
+impl Halves {
+    /// Returns a discovery of so many backends.
+    pub fn new(backends: u32) -> Halves {
+        Halves {
+            backends,
+            turn: AtomicU64::new(0),
+        }
+    }
+}
+
+impl ServiceDiscovery for Halves {
+    fn discover(&self, alloc: Global) -> Result<Discovered, Refusal> {
+        let less = (self.turn.fetch_add(1, SeqCst) % 2) as u32;
+        let count = self.backends.saturating_sub(less);
+        let set = members(alloc, 10, 0, count, Weights::Same(1))?;
+        Ok((set, Settings::new(alloc)))
+    }
+}
+
+/// How threads use what they share.
+#[derive(Clone, Copy, PartialEq, Eq)]
+pub enum Use {
+    /// They select through the handle that all share.
+    Handle,
+    /// Each selects through a reader of its own.
+    Reader,
+    /// Each selects at the slot of its number, where it looks at its candidate for a millisecond.
+    Stay,
+}
+
+/// How a measurement goes.
+#[derive(Clone, Copy)]
+pub struct Plan {
+    pub backends: u32,
+    pub threads: u32,
+    pub used: Use,
+    /// For how many seconds, and how often, it is changed at least.
+    pub seconds: u32,
+    pub turns: u32,
+}
+
+impl Plan {
+    // Whether these were enough turns, which took so many nanoseconds.
+    fn is_done(self, turns: u64, nanoseconds: u128) -> bool {
+        let wanted = u128::from(self.seconds) * 1_000_000_000;
+        nanoseconds >= wanted && turns >= u64::from(self.turns)
+    }
+
+    // Sleeps between two turns, but for readers that stay.
+    fn pause<W: Clock>(self, rt: &W) {
+        if self.used != Use::Stay {
+            thread::sleep(rt, Duration::from_millis(PAUSE));
+        }
+    }
+}
+
+/// What a measurement found, in nanoseconds but for the selections.
+#[derive(Clone, Copy)]
+pub struct Spent {
+    pub selections: u64,
+    /// How long all turns took, with the pauses between them.
+    pub whole: u128,
+    /// The longest turn, and the sum of all.
+    pub longest: u128,
+    pub sum: u128,
+}
+
+impl Spent {
+    // Notes a turn of a measurement that began at `start`.
+    fn note(&mut self, start: u128, begun: u128, ended: u128) {
+        let took = ended.saturating_sub(begun);
+        self.longest = self.longest.max(took);
+        self.sum = self.sum.saturating_add(took);
+        self.whole = ended.saturating_sub(start);
+    }
+}
+
+/// What threads share.
+pub trait Common {
+    /// Changes it, in the turn of this number.
+    fn change<W: Log + Threads + Wait + Clock + Copy + Sync>(
+        &self,
+        rt: &W,
+        alloc: Global,
+        used: Use,
+        turn: u64,
+    ) -> Result<(), Refusal>;
+
+    /// Selects, as the thread of this number, until the measurement is over. Returns how often.
+    fn select_all<W: Wait + Clock>(
+        &self,
+        rt: &W,
+        alloc: Global,
+        used: Use,
+        number: u64,
+        over: &AtomicBool,
+    ) -> Result<u64, Refusal>;
+}
+
+/// What one thread selects through.
+pub trait Selects {
+    /// Selects once. Returns whether a backend was found.
+    fn finds<W: Wait>(&mut self, rt: &W, alloc: Global, key: &[u8]) -> Result<bool, Refusal>;
+}
+
+/// The handle that all threads share.
+#[derive(Drop)]
+pub struct Handle<'h, B> {
+    pub shared: &'h B,
+}
+
+/// Returns whether something was found.
+pub fn is_found<T: Drop>(found: Option<T>) -> bool {
+    found.is_some()
+}
+
+// Selects as often as a thread does before it looks whether the measurement is over. Returns how often a backend was found.
+fn select_batch<T: Selects, W: Wait>(
+    rt: &W,
+    alloc: Global,
+    own: &mut T,
+    key: &mut u64,
+) -> Result<u64, Refusal> {
+    let mut count = 0u64;
+    for _ in 0..BATCH {
+        *key = key
+            .wrapping_mul(6364136223846793005)
+            .wrapping_add(1442695040888963407);
+        let is_found = own.finds(rt, alloc, &key.to_le_bytes())?;
+        count = count.wrapping_add(u64::from(is_found));
+    }
+    Ok(count)
+}
+
+/// Selects by keys of this thread's own until the measurement is over. Returns how often a backend was found.
+pub fn select_until<T: Selects, W: Wait>(
+    rt: &W,
+    alloc: Global,
+    own: &mut T,
+    number: u64,
+    over: &AtomicBool,
+) -> Result<u64, Refusal> {
+    let mut key = number;
+    let mut count = 0u64;
+    for _ in rt.forever() {
+        count = count.wrapping_add(select_batch(rt, alloc, own, &mut key)?);
+        if over.load(SeqCst) {
+            break;
+        }
+    }
+    Ok(count)
+}
+
+// Changes it turn after turn, as the plan says.
+fn turned<T: Common, W: Log + Threads + Wait + Clock + Copy + Sync>(
+    rt: &W,
+    alloc: Global,
+    shared: &T,
+    plan: Plan,
+) -> Result<Spent, Refusal> {
+    let mut clock = RuntimeClock::new(*rt);
+    let start = clock.now();
+    let mut spent = Spent {
+        selections: 0,
+        whole: 0,
+        longest: 0,
+        sum: 0,
+    };
+    for turn in 1..u64::MAX {
+        let begun = clock.now();
+        shared.change(rt, alloc, plan.used, turn)?;
+        spent.note(start, begun, clock.now());
+        if plan.is_done(turn, spent.whole) {
+            break;
+        }
+        plan.pause(rt);
+    }
+    Ok(spent)
+}
+
+// Changes it as the plan says. The measurement is over then, also where a change was refused.
+fn changed<T: Common, W: Log + Threads + Wait + Clock + Copy + Sync>(
+    rt: &W,
+    alloc: Global,
+    shared: &T,
+    plan: Plan,
+    over: &AtomicBool,
+) -> Result<Spent, Refusal> {
+    let spent = turned(rt, alloc, shared, plan);
+    over.store(true, SeqCst);
+    spent
+}
+
+// The sum of what threads counted.
+fn sum_of(counts: &[Result<u64, Refusal>]) -> Result<u64, Refusal> {
+    let mut sum = 0u64;
+    for count in counts {
+        match count {
+            Ok(count) => sum = sum.wrapping_add(*count),
+            Err(refusal) => return Err(*refusal),
+        }
+    }
+    Ok(sum)
+}
+
+// Selections of all threads; how many.
+fn all_select<T: Common + Sync, W: Threads + Wait + Clock + Sync>(
+    rt: &W,
+    alloc: Global,
+    shared: &T,
+    plan: Plan,
+    over: &AtomicBool,
+) -> Result<u64, Refusal> {
+    let selects = |number: usize| shared.select_all(rt, alloc, plan.used, number as u64, over);
+    let counts = thread::map_indices(rt, alloc, plan.threads as usize, &selects)?;
+    sum_of(counts.as_slice())
+}
+
+/// Has threads select while another one changes what they share, as the plan says.
+pub fn measured<T: Common + Sync, W: Log + Threads + Wait + Clock + Copy + Sync>(
+    rt: &W,
+    alloc: Global,
+    shared: &T,
+    plan: Plan,
+) -> Result<Spent, Refusal> {
+    let over = AtomicBool::new(false);
+    let (selections, spent) = join(
+        rt,
+        || all_select(rt, alloc, shared, plan, &over),
+        || changed(rt, alloc, shared, plan, &over),
+    );
+    let mut spent = spent?;
+    spent.selections = selections?;
+    Ok(spent)
+}
