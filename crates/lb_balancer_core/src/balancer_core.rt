@@ -10,7 +10,7 @@ ghost use Rattle.lb_health_core.specs.RegistryEvents.{Marked, registered_after};
 ghost use Rattle.lb_health_view.specs.ViewEvents.{generation_after};
 ghost use Rattle.lb_rebuild_core.specs.GroupCalls.{AcceptsBy, IsMade};
 ghost use Rattle.lb_balancer_core.specs.Choices.{IsChosen};
-ghost use Rattle.lb_balancer_core.specs.Balancer.{Judges, Stands, view_events};
+ghost use Rattle.lb_balancer_core.specs.Balancer.{After, Judges, Stands, view_events};
 ghost use Rattle.lb_balancer_core.specs.BalancerUpdates.{IsUpdated, IsRefusal};
 ghost use Rattle.lb_balancer_core.specs.ServedUpdates.{IsLoadSet, KeepsServed};
 ghost use Rattle.lb_balancer_core.specs.Texts.{IsOfTextsIn, IsTextsRefusal, one_more};
