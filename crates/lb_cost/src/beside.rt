@@ -1,6 +1,7 @@
 //! Threads that use one balancer or group, while another thread changes it in turns. The words `shared`, `groups` and `rebuilds` print what
 //! is found.
 use crate::members::{Weights, members};
+use lb_background::lending::{LendsToThreads, lend};
 use lb_health_view::discovery::{Discovered, ServiceDiscovery};
 use lb_health_view::view::Settings;
 use lb_select_base::moments::MomentSource;
@@ -70,6 +71,8 @@ pub struct Plan {
     /// For how many seconds, and how often, it is changed at least.
     pub seconds: u32,
     pub turns: u32,
+    /// After how many changes each time its targets are checked; 0 for never.
+    pub checked_each: u64,
 }
 
 impl Plan {
@@ -77,6 +80,11 @@ impl Plan {
     fn is_done(self, turns: u64, nanoseconds: u128) -> bool {
         let wanted = u128::from(self.seconds) * 1_000_000_000;
         nanoseconds >= wanted && turns >= u64::from(self.turns)
+    }
+
+    // Whether targets are checked after this turn.
+    fn is_checked(self, turn: u64) -> bool {
+        turn.checked_rem(self.checked_each) == Some(0)
     }
 
     // Sleeps between two turns, but for readers that stay.
@@ -110,13 +118,12 @@ impl Spent {
 
 /// What threads share.
 pub trait Common {
-    /// Changes it, in the turn of this number.
-    fn change<W: Log + Threads + Wait + Clock + Copy + Sync>(
+    /// Changes it.
+    fn change<W: Wait + Clock + Copy>(
         &self,
         rt: &W,
         alloc: Global,
         used: Use,
-        turn: u64,
     ) -> Result<(), Refusal>;
 
     /// Selects, as the thread of this number, until the measurement is over. Returns how often.
@@ -142,9 +149,9 @@ pub struct Handle<'h, B> {
     pub shared: &'h B,
 }
 
-/// Returns whether something was found.
-pub fn is_found<T: Drop>(found: Option<T>) -> bool {
-    found.is_some()
+/// Returns whether something was found, where no memory was refused.
+pub fn is_found<T: Drop>(found: Result<Option<T>, Refusal>) -> Result<bool, Refusal> {
+    Ok(found?.is_some())
 }
 
 // Selects as often as a thread does before it looks whether the measurement is over. Returns how often a backend was found.
@@ -185,12 +192,16 @@ pub fn select_until<T: Selects, W: Wait>(
 }
 
 // Changes it turn after turn, as the plan says.
-fn turned<T: Common, W: Log + Threads + Wait + Clock + Copy + Sync>(
+fn turned<T: Common + LendsToThreads, W: Log + Threads + Wait + Clock + Copy + Sync>(
     rt: &W,
     alloc: Global,
     shared: &T,
     plan: Plan,
-) -> Result<Spent, Refusal> {
+) -> Result<Spent, Refusal>
+where
+    T::Rule: Send,
+    T::Check: Send + Sync,
+{
     let mut clock = RuntimeClock::new(*rt);
     let start = clock.now();
     let mut spent = Spent {
@@ -201,7 +212,10 @@ fn turned<T: Common, W: Log + Threads + Wait + Clock + Copy + Sync>(
     };
     for turn in 1..u64::MAX {
         let begun = clock.now();
-        shared.change(rt, alloc, plan.used, turn)?;
+        shared.change(rt, alloc, plan.used)?;
+        if plan.is_checked(turn) {
+            lend(shared).run_health_check(rt, alloc, false)?;
+        }
         spent.note(start, begun, clock.now());
         if plan.is_done(turn, spent.whole) {
             break;
@@ -212,13 +226,17 @@ fn turned<T: Common, W: Log + Threads + Wait + Clock + Copy + Sync>(
 }
 
 // Changes it as the plan says. The measurement is over then, also where a change was refused.
-fn changed<T: Common, W: Log + Threads + Wait + Clock + Copy + Sync>(
+fn changed<T: Common + LendsToThreads, W: Log + Threads + Wait + Clock + Copy + Sync>(
     rt: &W,
     alloc: Global,
     shared: &T,
     plan: Plan,
     over: &AtomicBool,
-) -> Result<Spent, Refusal> {
+) -> Result<Spent, Refusal>
+where
+    T::Rule: Send,
+    T::Check: Send + Sync,
+{
     let spent = turned(rt, alloc, shared, plan);
     over.store(true, SeqCst);
     spent
@@ -250,12 +268,16 @@ fn all_select<T: Common + Sync, W: Threads + Wait + Clock + Sync>(
 }
 
 /// Has threads select while another one changes what they share, as the plan says.
-pub fn measured<T: Common + Sync, W: Log + Threads + Wait + Clock + Copy + Sync>(
+pub fn measured<T: Common + LendsToThreads + Sync, W: Log + Threads + Wait + Clock + Copy + Sync>(
     rt: &W,
     alloc: Global,
     shared: &T,
     plan: Plan,
-) -> Result<Spent, Refusal> {
+) -> Result<Spent, Refusal>
+where
+    T::Rule: Send,
+    T::Check: Send + Sync,
+{
     let over = AtomicBool::new(false);
     let (selections, spent) = join(
         rt,

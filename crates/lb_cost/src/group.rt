@@ -5,8 +5,9 @@ ghost use Rattle.std.specs.Prelude.{◌≡◌, IfOk, Some, slice_get};
 ghost use Rattle.lb_rebuild_core.specs.Stands.{SameSite};
 ghost use Rattle.lb_rebuild_core.specs.Values.{configs_of};
 
+use crate::faults::Fault;
 use crate::members::{Weights, members};
-use crate::words::{Usage, number_at, print_line};
+use crate::words::{number_at, print_line};
 use anyhow::Error;
 use lb_rebuild_core::answers::Ask;
 use lb_rebuild_core::end_source::FixedMoment;
@@ -38,17 +39,17 @@ const READ: u32 = 4;
 
 const DESTROYED: u32 = 5;
 
-// The calls that are measured, each by its place.
-const CALLS: [&str; 9] = [
-    "clock",
-    "schedule",
-    "ask",
-    "fail",
-    "publish",
-    "enter",
-    "leave",
-    "take_retired",
-    "destroyed",
+// The calls that are measured, each at its place, none of them yet.
+const CALLS: [(&str, u128); 9] = [
+    ("clock", u128::MAX),
+    ("schedule", u128::MAX),
+    ("ask", u128::MAX),
+    ("fail", u128::MAX),
+    ("publish", u128::MAX),
+    ("enter", u128::MAX),
+    ("leave", u128::MAX),
+    ("take_retired", u128::MAX),
+    ("destroyed", u128::MAX),
 ];
 
 const CLOCK: usize = 0;
@@ -78,23 +79,24 @@ struct Plan {
     until: u32,
 }
 
-// The least time of each call so far, in nanoseconds. The reading of the clock is in it.
-#[derive(Clone, Copy)]
+// The least time of each call so far, by its name, in nanoseconds. The reading of the clock is in it.
+#[derive(Drop)]
 struct Costs<R> {
     clock: RuntimeClock<R>,
-    least: [u128; 9],
+    start: u128,
+    least: [(&'static str, u128); 9],
 }
 
 impl<R: Clock> Costs<R> {
-    // The moment at which a call begins.
-    fn begin(&mut self) -> u128 {
-        self.clock.now()
+    // Notes the moment at which a call begins.
+    fn begin(&mut self) {
+        self.start = self.clock.now();
     }
 
-    // Notes that a call has ended.
-    fn end(&mut self, call: usize, start: u128) {
-        let spent = self.clock.now().saturating_sub(start);
-        if let Some(least) = self.least.get_mut(call) {
+    // Notes that the call has ended.
+    fn end(&mut self, call: usize) {
+        let spent = self.clock.now().saturating_sub(self.start);
+        if let Some((_, least)) = self.least.get_mut(call) {
             *least = spent.min(*least);
         }
     }
@@ -115,9 +117,9 @@ fn asked<S: BackendSelection, R: Clock>(
     ensures permit { IfOk result (λ j. j.permit ≡ group.new.gate) }
     ensures config { IfOk result (λ j. slice_get (configs_of group.new) j.slot ≡ Some j.config) }
 {
-    let start = costs.begin();
+    costs.begin();
     let answer = group.ask(slot, gate, now);
-    costs.end(ASK, start);
+    costs.end(ASK);
     match answer? {
         Ask::Cancelled | Ask::Building | Ask::Nothing | Ask::NotDue(_) | Ask::Busy => Err(
             Refusal::NothingInFlight,
@@ -141,9 +143,9 @@ fn failed<S: BackendSelection, R: Clock>(
     ensures gate { gate.new.id ≡ gate.old.id }
     ensures site { SameSite group.old group.new }
 {
-    let start = costs.begin();
+    costs.begin();
     let answer = group.fail(job, gate, now);
-    costs.end(FAIL, start);
+    costs.end(FAIL);
     if let Err(job) = answer {
         end_job(job);
     }
@@ -173,9 +175,9 @@ fn published<S: BackendSelection, R: Clock>(
         end_built(built);
         return Ok(());
     }
-    let start = costs.begin();
+    costs.begin();
     let answer = group.publish(built);
-    costs.end(PUBLISH, start);
+    costs.end(PUBLISH);
     if let Err(built) = answer {
         end_built(built);
     }
@@ -190,13 +192,13 @@ fn read<S: BackendSelection, R: Clock>(
 ) -> Result<(), Refusal>
     ensures { SameSite group.old group.new }
 {
-    let start = costs.begin();
+    costs.begin();
     let entry = group.enter(slot);
-    costs.end(ENTER, start);
+    costs.end(ENTER);
     let reader = entry?;
-    let start = costs.begin();
+    costs.begin();
     let answer = group.leave(reader);
-    costs.end(LEAVE, start);
+    costs.end(LEAVE);
     if let Err(reader) = answer {
         end_reader(reader);
     }
@@ -214,13 +216,13 @@ fn destroyed<S: BackendSelection, R: Clock>(
     ensures gate { gate.new.id ≡ gate.old.id }
     ensures site { SameSite group.old group.new }
 {
-    let start = costs.begin();
+    costs.begin();
     let taken = group.take_retired(slot);
-    costs.end(TAKE_RETIRED, start);
+    costs.end(TAKE_RETIRED);
     let permit = taken?.destroy();
-    let start = costs.begin();
+    costs.begin();
     let answer = group.destroyed(slot, permit, gate);
-    costs.end(REPORT, start);
+    costs.end(REPORT);
     if let Err(permit) = answer {
         end_permit(permit);
     }
@@ -236,11 +238,11 @@ fn schedule<S: BackendSelection, R: Clock>(
 ) -> Result<(), Refusal>
     ensures { SameSite group.old group.new }
 {
-    let start = costs.begin();
-    costs.end(CLOCK, start);
-    let start = costs.begin();
+    costs.begin();
+    costs.end(CLOCK);
+    costs.begin();
     let scheduled = group.schedule(alloc, set, 0)?;
-    costs.end(SCHEDULE, start);
+    costs.end(SCHEDULE);
     let _turns = scheduled.turns;
     Ok(())
 }
@@ -278,14 +280,14 @@ fn round<S: BackendSelection, R: Clock>(
     destroyed(group, gate, slot, costs)
 }
 
-// All rounds.
+// All rounds; the newest generation after them.
 fn rounds<S: BackendSelection, R: Clock>(
     alloc: Global,
     group: &mut Slots<S>,
     gate: &mut GateCore,
     plan: Plan,
     costs: &mut Costs<R>,
-) -> Result<(), Refusal>
+) -> Result<u64, Refusal>
     requires { gate.old.id ≡ group.old.gate }
 {
     for number in 0..plan.rounds {
@@ -299,7 +301,7 @@ fn rounds<S: BackendSelection, R: Clock>(
         let slot = number.checked_rem(plan.slots).unwrap_or(0) as usize;
         round(alloc, group, gate, slot, plan.until, costs)?;
     }
-    Ok(())
+    Ok(group.newest())
 }
 
 // The configurations of so many slots.
@@ -320,8 +322,7 @@ fn measured<R: Clock>(
 ) -> Result<u64, Refusal> {
     let configs = configs(alloc, plan.slots)?;
     let mut group: Slots<LeastConnections> = Slots::new(alloc, gate, configs)?;
-    rounds(alloc, &mut group, gate, plan, costs)?;
-    Ok(group.newest())
+    rounds(alloc, &mut group, gate, plan, costs)
 }
 
 // The same, with a gate of its own.
@@ -331,7 +332,7 @@ fn newest<R: Clock>(alloc: Global, plan: Plan, costs: &mut Costs<R>) -> Result<u
 }
 
 // What is measured, by these words.
-fn plan_of(numbers: &[String]) -> Result<Plan, Usage> {
+fn plan_of(numbers: &[String]) -> Result<Plan, Fault> {
     Ok(Plan {
         backends: number_at(numbers, 0, 10)?,
         slots: number_at(numbers, 1, 2)?,
@@ -341,8 +342,8 @@ fn plan_of(numbers: &[String]) -> Result<Plan, Usage> {
 }
 
 // Prints the least nanoseconds of each call.
-fn print_costs<R: Print>(rt: &R, least: &[u128; 9]) -> io::Result<()> {
-    for (call, least) in CALLS.iter().zip(least.iter()) {
+fn print_costs<R: Print>(rt: &R, costs: &[(&'static str, u128); 9]) -> io::Result<()> {
+    for (call, least) in costs {
         print_line(rt, *call, *least)?;
     }
     Ok(())
@@ -357,7 +358,8 @@ pub fn run<R: Clock + Print + Copy>(
     let plan = plan_of(numbers)?;
     let mut costs = Costs {
         clock: RuntimeClock::new(*rt),
-        least: [u128::MAX; 9],
+        start: 0,
+        least: CALLS,
     };
     let newest = newest(alloc, plan, &mut costs)?;
     print_line(rt, "generation", u128::from(newest))?;

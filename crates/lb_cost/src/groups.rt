@@ -24,16 +24,13 @@ use std::thread;
 use std::thread::Threads;
 use std::time::{Clock, Duration};
 
-// How many updates there are for each pass of checks.
-const CHECKED_EACH: u64 = 10;
-
 // The group that is measured.
 type Group<S> = LoadBalancerGroup<S, Halves, Rule<NoRule>, Flips>;
 
 impl<'g, S: BackendSelection, R: KeyRule + Drop, C: HealthCheck + Drop> Selects
     for GroupReader<'g, S, R, C> {
     fn finds<W: Wait>(&mut self, rt: &W, alloc: Global, key: &[u8]) -> Result<bool, Refusal> {
-        Ok(is_found(self.select(rt, alloc, 0, key, LIMIT)?))
+        is_found(self.select(rt, alloc, 0, key, LIMIT))
     }
 }
 
@@ -45,7 +42,7 @@ impl<
     C: HealthCheck + Drop,
 > Selects for Handle<'h, LoadBalancerGroup<S, D, R, C>> {
     fn finds<W: Wait>(&mut self, rt: &W, alloc: Global, key: &[u8]) -> Result<bool, Refusal> {
-        Ok(is_found(self.shared.select(rt, alloc, 0, key, LIMIT)?))
+        is_found(self.shared.select(rt, alloc, 0, key, LIMIT))
     }
 }
 
@@ -69,7 +66,7 @@ fn stayed<
     };
     let mut count = 0u64;
     for _ in rt.forever() {
-        let _ = is_found(group.select_with(rt, alloc, slot, b"key", 1, &accept)?);
+        is_found(group.select_with(rt, alloc, slot, b"key", 1, &accept))?;
         count = count.wrapping_add(1);
         if over.load(SeqCst) {
             break;
@@ -78,41 +75,39 @@ fn stayed<
     Ok(count)
 }
 
-// Waits until all slots serve the newest generation, a minute at most.
-fn awaited<
+/// Waits until all slots serve the newest generation, a minute at most. Returns whether they do.
+pub fn awaited<
     S: BackendSelection,
     D: ServiceDiscovery + Drop,
     R: KeyRule + Drop,
     C: HealthCheck + Drop,
     W: Wait + Clock,
->(rt: &W, group: &LoadBalancerGroup<S, D, R, C>) {
+>(rt: &W, group: &LoadBalancerGroup<S, D, R, C>) -> bool {
     for _ in 0..600_000 {
         if group.selectors_ready_for(rt, group.backend_generation(rt)) {
-            return;
+            return true;
         }
         thread::sleep(rt, Duration::from_micros(100));
     }
+    false
 }
 
 impl<
     S: BackendSelection,
     D: ServiceDiscovery + Drop,
-    R: KeyRule + Drop + Send,
-    C: HealthCheck + Drop + Send + Sync,
+    R: KeyRule + Drop,
+    C: HealthCheck + Drop,
 > Common for LoadBalancerGroup<S, D, R, C> {
-    // Updates it. Where readers stay, waits until it serves that; else checks in every tenth turn.
-    fn change<W: Log + Threads + Wait + Clock + Copy + Sync>(
+    // Updates it; where readers stay, until it serves that.
+    fn change<W: Wait + Clock + Copy>(
         &self,
         rt: &W,
         alloc: Global,
         used: Use,
-        turn: u64,
     ) -> Result<(), Refusal> {
         self.update(rt, alloc, &mut RuntimeClock::new(*rt))?;
         if used == Use::Stay {
-            awaited(rt, self);
-        } else if turn % CHECKED_EACH == 0 {
-            self.backends().run_health_check(rt, alloc, false)?;
+            let _ = awaited(rt, self);
         }
         Ok(())
     }
@@ -167,7 +162,7 @@ where
     group.set_health_check(rt, Flips::new(period))?;
     let _ = group.start_workers(rt, alloc, RuntimeClock::new(*rt));
     group.update(rt, alloc, &mut RuntimeClock::new(*rt))?;
-    awaited(rt, group);
+    let _ = awaited(rt, group);
     measure_shared(rt, alloc, group, plan)
 }
 

@@ -5,6 +5,7 @@
 
 mod beside;
 mod board;
+mod faults;
 mod group;
 mod groups;
 mod health;
@@ -24,6 +25,7 @@ mod soak_threads;
 mod words;
 
 use anyhow::Error;
+use faults::Fault;
 use log::Log;
 use std::alloc::Global;
 use std::env;
@@ -32,7 +34,6 @@ use std::rt::Files;
 use std::sync::Wait;
 use std::thread::Threads;
 use std::time::Clock;
-use words::Usage;
 
 // Measures what a word says, by these numbers.
 fn measure<
@@ -61,7 +62,7 @@ fn measure<
         "selects" => selects::run(rt, alloc),
         "shared" => shared::run(rt, alloc, false, numbers),
         "soak" => soak::run(rt, alloc, numbers),
-        _ => Err(Usage::UnknownWord)?,
+        _ => Err(Fault::UnknownWord)?,
     }
 }
 

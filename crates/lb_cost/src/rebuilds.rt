@@ -39,6 +39,7 @@ pub fn run<W: Log + Threads + Wait + Clock + Print + Copy + Send + Sync + 'stati
         used: Use::Stay,
         seconds: 0,
         turns: updates,
+        checked_each: 0,
     };
     let spent = measure_group::<FNVHash, W>(rt, alloc, slots, plan)?;
     Ok(print_spent(rt, slots, updates, spent)?)

@@ -1,8 +1,9 @@
 //! Calls of shared types in which memory may be refused: `refused`. A call that was refused for it has to leave all that can be read as it
 //! was, and is made again. Each call has to answer what its row says, whether it was made again or not. A pass of checks that was refused
 //! for it has checked nothing; where a thread can't be started for a check, the check runs on the caller's.
+use crate::faults::Fault;
 use crate::refused_found::{FIRST, Members, OTHER};
-use crate::refused_subjects::{Alone, Balancer, Group, Made, Site, View};
+use crate::refused_subjects::{Alone, Balancer, Group, Made, Registry, Site, View, check_all};
 use anyhow::Error;
 use lb_balancer_core::timings::UpdateTimings;
 use lb_select::ketama::KetamaHashing;
@@ -63,33 +64,43 @@ pub struct Seen {
     pub timing: Option<UpdateTimings>,
 }
 
+/// What is asked of a backend.
+#[derive(Clone, Copy)]
+pub enum Question {
+    /// Whether it is ready.
+    IsReady,
+    /// That it is disabled.
+    Disable,
+    /// That its load is set.
+    Load,
+}
+
 /// What the calls are made of.
 pub trait Subject {
     /// Reads what can be read.
     fn seen<W: Wait + Drop>(&self, site: &Site<W>) -> Result<Seen, Refusal>;
 
-    /// Returns whether a backend is ready.
-    fn is_ready<W: Wait>(&self, rt: &W, backend: &Backend) -> bool;
-
-    /// Disables a backend.
-    fn disable<W: Wait>(&self, rt: &W, backend: &Backend);
-
-    /// Sets the load of a backend.
-    fn set_load<W: Wait + Drop>(&self, site: &Site<W>, backend: &Backend) -> Result<(), Refusal>;
-
-    /// Makes a call, of those without flags and loads.
-    fn make<W: Log + Threads + Wait + Copy + Sync + Drop>(
+    /// Asks something of a backend. Returns whether it is ready, where that was asked.
+    fn ask<W: Wait + Drop>(
         &self,
         site: &Site<W>,
-        call: Call,
-    ) -> Result<u64, Refusal>;
+        backend: &Backend,
+        question: Question,
+    ) -> Result<bool, Refusal>;
+
+    /// Makes a call, of those without flags, loads and checks.
+    fn make<W: Wait + Drop>(&self, site: &Site<W>, call: Call) -> Result<u64, Refusal>;
+
+    /// Returns the registry whose targets passes check, where there are such.
+    fn registry(&self) -> Option<&Registry>;
 }
 
 // How many backends of the first list are ready.
 fn count_in<W: Wait + Drop, T: Subject>(site: &Site<W>, subject: &T) -> u64 {
     let mut count: u64 = 0;
     for backend in &site.first {
-        count = count.saturating_add(u64::from(subject.is_ready(&site.rt, backend)));
+        let is_ready = subject.ask(site, backend, Question::IsReady) == Ok(true);
+        count = count.saturating_add(u64::from(is_ready));
     }
     count
 }
@@ -97,17 +108,17 @@ fn count_in<W: Wait + Drop, T: Subject>(site: &Site<W>, subject: &T) -> u64 {
 // Sets the load of each backend of the first list.
 fn load_all<W: Wait + Drop, T: Subject>(site: &Site<W>, subject: &T) -> Result<u64, Refusal> {
     for backend in &site.first {
-        subject.set_load(site, backend)?;
+        subject.ask(site, backend, Question::Load)?;
     }
     Ok(0)
 }
 
 // Disables the last backend of the first list. Returns how many of that list are ready then.
-fn disable_last<W: Wait + Drop, T: Subject>(site: &Site<W>, subject: &T) -> u64 {
+fn disable_last<W: Wait + Drop, T: Subject>(site: &Site<W>, subject: &T) -> Result<u64, Refusal> {
     if let Some(backend) = site.first.last() {
-        subject.disable(&site.rt, backend);
+        subject.ask(site, backend, Question::Disable)?;
     }
-    count_in(site, subject)
+    Ok(count_in(site, subject))
 }
 
 // Makes any call.
@@ -117,8 +128,12 @@ fn answer<W: Log + Threads + Wait + Copy + Sync + Drop, T: Subject>(
     call: Call,
 ) -> Result<u64, Refusal> {
     match call {
-        Call::Disable => Ok(disable_last(site, subject)),
+        Call::Disable => disable_last(site, subject),
         Call::Load => load_all(site, subject),
+        Call::Check(pass) => match subject.registry() {
+            Some(registry) => check_all(site, registry, pass),
+            None => Err(Refusal::NoSuch),
+        },
         _ => subject.make(site, call),
     }
 }
@@ -225,18 +240,6 @@ const PASSES: &[Row] = &[
         }),
         8,
     ),
-];
-
-// The names of the subjects.
-const NAMES: [&str; 8] = [
-    "the calls of a shared registry",
-    "those of a registry by address",
-    "the calls of a shared view",
-    "the calls of a shared balancer",
-    "those of a configured one",
-    "those of one made of texts",
-    "the calls of a shared group",
-    "the passes of a shared registry",
 ];
 
 /// What came of a subject's calls: whether all agreed, and which one was made again, by its number from 1; 0 for the one that makes the
@@ -348,27 +351,35 @@ fn course_of<W: Log + Net + Threads + Wait + Copy + Sync + Drop, T: Made + Subje
     }
 }
 
-// The courses of all subjects.
+// The courses of all subjects, with their names.
 fn courses<W: Log + Net + Threads + Wait + Copy + Sync + Drop>(
     rt: &W,
     alloc: Global,
-) -> [Course; 8] {
+) -> [(&'static str, Course); 8] {
+    let registry = course_of::<W, Alone<false, false>>(rt, alloc, REGISTRY);
+    let by_address = course_of::<W, Alone<true, false>>(rt, alloc, REGISTRY);
+    let view = course_of::<W, View>(rt, alloc, VIEW);
+    let balancer = course_of::<W, Balancer<FNVHash>>(rt, alloc, BALANCER);
+    let configured = course_of::<W, Balancer<KetamaHashing>>(rt, alloc, BALANCER);
+    let of_texts = course_of::<W, Balancer<RoundRobin>>(rt, alloc, TEXTS);
+    let group = course_of::<W, Group>(rt, alloc, GROUP);
+    let checked = course_of::<W, Alone<false, true>>(rt, alloc, PASSES);
     [
-        course_of::<W, Alone<false, false>>(rt, alloc, REGISTRY),
-        course_of::<W, Alone<true, false>>(rt, alloc, REGISTRY),
-        course_of::<W, View>(rt, alloc, VIEW),
-        course_of::<W, Balancer<FNVHash>>(rt, alloc, BALANCER),
-        course_of::<W, Balancer<KetamaHashing>>(rt, alloc, BALANCER),
-        course_of::<W, Balancer<RoundRobin>>(rt, alloc, TEXTS),
-        course_of::<W, Group>(rt, alloc, GROUP),
-        course_of::<W, Alone<false, true>>(rt, alloc, PASSES),
+        ("the calls of a shared registry", registry),
+        ("those of a registry by address", by_address),
+        ("the calls of a shared view", view),
+        ("the calls of a shared balancer", balancer),
+        ("those of a configured one", configured),
+        ("those of one made of texts", of_texts),
+        ("the calls of a shared group", group),
+        ("the passes of a shared registry", checked),
     ]
 }
 
 // Reports the courses. Returns whether all agree.
-fn all_agree<W: Print>(rt: &W, courses: &[Course; 8]) -> io::Result<bool> {
+fn all_agree<W: Print>(rt: &W, courses: &[(&'static str, Course); 8]) -> io::Result<bool> {
     let mut all = true;
-    for (name, course) in NAMES.iter().zip(courses.iter()) {
+    for (name, course) in courses {
         course.report(rt, *name)?;
         all &= course.agrees;
     }
@@ -387,11 +398,6 @@ pub fn run<W: Log + Net + Threads + Wait + Print + Copy + Sync + Drop>(
     if all_agree(rt, &courses(rt, alloc))? {
         Ok(())
     } else {
-        Err(Differs)?
+        Err(Fault::Differs)?
     }
 }
-
-/// A call of a table came to something else.
-#[derive(Clone, Copy, Debug, thiserror::Error)]
-#[error("a call came to something else")]
-pub struct Differs;

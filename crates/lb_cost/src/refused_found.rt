@@ -18,6 +18,9 @@ pub type Members = &'static [(&'static str, usize)];
 /// Two backends.
 pub const FIRST: Members = &[("1.0.0.1:80", 1), ("1.0.0.2:80", 2)];
 
+/// Their addresses.
+pub const ADDRESSES: [&str; 2] = ["1.0.0.1:80", "1.0.0.2:80"];
+
 /// Other backends, of which one is in the first list too.
 pub const OTHER: Members = &[("1.0.0.2:80", 2), ("1.0.0.3:80", 3), ("1.0.0.4:80", 4)];
 

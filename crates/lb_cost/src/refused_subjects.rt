@@ -1,8 +1,8 @@
 //! The shared types whose calls are made while memory is refused.
 use crate::members::nothing;
 use crate::passes::pass;
-use crate::refused::{Call, Cells, Pass, Seen, Subject};
-use crate::refused_found::{ByWeight, FIRST, Found, Lists, OTHER, Ticks, set_of};
+use crate::refused::{Call, Cells, Pass, Question, Seen, Subject};
+use crate::refused_found::{ADDRESSES, ByWeight, FIRST, Found, Lists, OTHER, Ticks, set_of};
 use crate::slots::{new_gate, take_gate, unset};
 use lb_balancer::load_balancer::LoadBalancer;
 use lb_balancer_core::turn::{Turn, worker_turn};
@@ -35,7 +35,8 @@ const SECOND: u64 = 1_000_000_000;
 // How many targets passes are made over.
 const TARGETS: usize = 3;
 
-type Registry = HealthRegistry<Rule<NoRule>, ByWeight>;
+/// A registry of the subjects.
+pub type Registry = HealthRegistry<Rule<NoRule>, ByWeight>;
 
 /// A view over a shared registry.
 pub type View = BackendView<Lists, Rule<NoRule>, ByWeight>;
@@ -171,15 +172,10 @@ impl Made for Balancer<KetamaHashing> {
     }
 }
 
-// The address of a backend of a list.
-fn address((address, _): &(&'static str, usize)) -> &'static str {
-    address
-}
-
 impl Made for Balancer<RoundRobin> {
     fn make<W: Net + Wait + Drop>(site: &Site<W>) -> Result<Balancer<RoundRobin>, Refusal> {
         let (rt, alloc) = (&site.rt, site.alloc);
-        let texts = FIRST.iter().map(address);
+        let texts = ADDRESSES.iter().copied();
         LoadBalancer::try_from_iter(rt, alloc, texts, &mut Ticks { next: 10 })
     }
 }
@@ -211,8 +207,9 @@ fn cells_of<W: Wait>(rt: &W, registry: &Registry) -> Cells {
     cells
 }
 
-// Makes a pass of checks over a registry, after which these cells are to be ready.
-fn passed<W: Log + Threads + Wait + Copy + Sync + Drop>(
+/// Makes a pass of checks over a registry. Returns how many verdicts have flipped a cell so far; refused `NoSuch` where other cells are ready
+/// than these then, or the check was asked more or less often, or there are other targets.
+pub fn check_all<W: Log + Threads + Wait + Copy + Sync + Drop>(
     site: &Site<W>,
     registry: &Registry,
     wanted: Pass,
@@ -243,21 +240,20 @@ impl<const BY_ADDRESS: bool, const HAS_CHECK: bool> Subject for Alone<BY_ADDRESS
         })
     }
 
-    fn is_ready<W: Wait>(&self, _rt: &W, _backend: &Backend) -> bool {
-        false
-    }
-
-    fn disable<W: Wait>(&self, _rt: &W, _backend: &Backend) {}
-
-    fn set_load<W: Wait + Drop>(&self, _site: &Site<W>, _backend: &Backend) -> Result<(), Refusal> {
+    fn ask<W: Wait + Drop>(
+        &self,
+        _site: &Site<W>,
+        _backend: &Backend,
+        _question: Question,
+    ) -> Result<bool, Refusal> {
         Err(Refusal::NoSuch)
     }
 
-    fn make<W: Log + Threads + Wait + Copy + Sync + Drop>(
-        &self,
-        site: &Site<W>,
-        call: Call,
-    ) -> Result<u64, Refusal> {
+    fn registry(&self) -> Option<&Registry> {
+        Some(&self.registry)
+    }
+
+    fn make<W: Wait + Drop>(&self, site: &Site<W>, call: Call) -> Result<u64, Refusal> {
         let (rt, alloc, registry) = (&site.rt, site.alloc, &self.registry);
         match call {
             Call::Register => registry.register_view(rt, alloc),
@@ -267,7 +263,6 @@ impl<const BY_ADDRESS: bool, const HAS_CHECK: bool> Subject for Alone<BY_ADDRESS
             }
             Call::Targets => Ok(registry.target_count(rt, alloc)? as u64),
             Call::List => Ok(registry.targets(rt, alloc)?.len() as u64),
-            Call::Check(wanted) => passed(site, registry, wanted),
             _ => Err(Refusal::NoSuch),
         }
     }
@@ -287,23 +282,26 @@ impl Subject for View {
         })
     }
 
-    fn is_ready<W: Wait>(&self, rt: &W, backend: &Backend) -> bool {
-        self.ready(rt, backend)
-    }
-
-    fn disable<W: Wait>(&self, rt: &W, backend: &Backend) {
-        self.set_enable(rt, backend, false);
-    }
-
-    fn set_load<W: Wait + Drop>(&self, _site: &Site<W>, _backend: &Backend) -> Result<(), Refusal> {
-        Err(Refusal::NoSuch)
-    }
-
-    fn make<W: Log + Threads + Wait + Copy + Sync + Drop>(
+    fn ask<W: Wait + Drop>(
         &self,
         site: &Site<W>,
-        call: Call,
-    ) -> Result<u64, Refusal> {
+        backend: &Backend,
+        question: Question,
+    ) -> Result<bool, Refusal> {
+        let rt = &site.rt;
+        match question {
+            Question::IsReady => return Ok(self.ready(rt, backend)),
+            Question::Disable => self.set_enable(rt, backend, false),
+            Question::Load => return Err(Refusal::NoSuch),
+        }
+        Ok(false)
+    }
+
+    fn registry(&self) -> Option<&Registry> {
+        None
+    }
+
+    fn make<W: Wait + Drop>(&self, site: &Site<W>, call: Call) -> Result<u64, Refusal> {
         let rt = &site.rt;
         let Call::Update(is_other) = call else {
             return Err(Refusal::NoSuch);
@@ -314,18 +312,19 @@ impl Subject for View {
     }
 }
 
-// The weight of what is selected.
-fn weight_of(selected: Option<Backend>) -> Option<usize> {
+// The weight of what is selected, where no memory was refused.
+fn weight_of(selected: Result<Option<Backend>, Refusal>) -> Result<Option<usize>, Refusal> {
     match &selected {
-        Some(backend) => Some(backend.weight),
-        None => None,
+        Ok(Some(backend)) => Ok(Some(backend.weight)),
+        Ok(None) => Ok(None),
+        Err(refusal) => Err(*refusal),
     }
 }
 
 impl<S: BackendSelection> Subject for Balancer<S> {
     fn seen<W: Wait + Drop>(&self, site: &Site<W>) -> Result<Seen, Refusal> {
         let (rt, alloc) = (&site.rt, site.alloc);
-        let selected = weight_of(self.select(rt, alloc, b"k", 1)?);
+        let selected = weight_of(self.select(rt, alloc, b"k", 1))?;
         let targets = site.targets()?;
         let newest = self.backend_generation(rt);
         Ok(Seen {
@@ -338,23 +337,26 @@ impl<S: BackendSelection> Subject for Balancer<S> {
         })
     }
 
-    fn is_ready<W: Wait>(&self, rt: &W, backend: &Backend) -> bool {
-        self.backends().ready(rt, backend)
-    }
-
-    fn disable<W: Wait>(&self, rt: &W, backend: &Backend) {
-        self.backends().set_enable(rt, backend, false);
-    }
-
-    fn set_load<W: Wait + Drop>(&self, site: &Site<W>, backend: &Backend) -> Result<(), Refusal> {
-        LoadBalancer::set_load(self, &site.rt, site.alloc, backend, 7)
-    }
-
-    fn make<W: Log + Threads + Wait + Copy + Sync + Drop>(
+    fn ask<W: Wait + Drop>(
         &self,
         site: &Site<W>,
-        call: Call,
-    ) -> Result<u64, Refusal> {
+        backend: &Backend,
+        question: Question,
+    ) -> Result<bool, Refusal> {
+        let rt = &site.rt;
+        match question {
+            Question::IsReady => return Ok(self.backends().ready(rt, backend)),
+            Question::Disable => self.backends().set_enable(rt, backend, false),
+            Question::Load => self.set_load(rt, site.alloc, backend, 7)?,
+        }
+        Ok(false)
+    }
+
+    fn registry(&self) -> Option<&Registry> {
+        None
+    }
+
+    fn make<W: Wait + Drop>(&self, site: &Site<W>, call: Call) -> Result<u64, Refusal> {
         let rt = &site.rt;
         let Call::Update(is_other) = call else {
             return Err(Refusal::NoSuch);
@@ -392,7 +394,7 @@ fn turn<W: Wait + Drop>(site: &Site<W>, group: &Group) -> Result<u64, Refusal> {
 impl Subject for Group {
     fn seen<W: Wait + Drop>(&self, site: &Site<W>) -> Result<Seen, Refusal> {
         let (rt, alloc) = (&site.rt, site.alloc);
-        let selected = weight_of(self.select(rt, alloc, 0, b"k", 1)?);
+        let selected = weight_of(self.select(rt, alloc, 0, b"k", 1))?;
         let targets = site.targets()?;
         let Some(served) = self.selector_generation(rt, 0) else {
             return Err(Refusal::NoSuch);
@@ -407,23 +409,26 @@ impl Subject for Group {
         })
     }
 
-    fn is_ready<W: Wait>(&self, rt: &W, backend: &Backend) -> bool {
-        self.backends().ready(rt, backend)
-    }
-
-    fn disable<W: Wait>(&self, rt: &W, backend: &Backend) {
-        self.backends().set_enable(rt, backend, false);
-    }
-
-    fn set_load<W: Wait + Drop>(&self, site: &Site<W>, backend: &Backend) -> Result<(), Refusal> {
-        LoadBalancerGroup::set_load(self, &site.rt, site.alloc, backend, 7)
-    }
-
-    fn make<W: Log + Threads + Wait + Copy + Sync + Drop>(
+    fn ask<W: Wait + Drop>(
         &self,
         site: &Site<W>,
-        call: Call,
-    ) -> Result<u64, Refusal> {
+        backend: &Backend,
+        question: Question,
+    ) -> Result<bool, Refusal> {
+        let rt = &site.rt;
+        match question {
+            Question::IsReady => return Ok(self.backends().ready(rt, backend)),
+            Question::Disable => self.backends().set_enable(rt, backend, false),
+            Question::Load => self.set_load(rt, site.alloc, backend, 7)?,
+        }
+        Ok(false)
+    }
+
+    fn registry(&self) -> Option<&Registry> {
+        None
+    }
+
+    fn make<W: Wait + Drop>(&self, site: &Site<W>, call: Call) -> Result<u64, Refusal> {
         match call {
             Call::Update(is_other) => {
                 site.found.is_other.store(is_other, SeqCst);

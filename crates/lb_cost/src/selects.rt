@@ -1,7 +1,7 @@
 //! Selections by the library alone: `selects`, what one costs without a script's text. A line of standard input is a run,
 //! `KIND BACKENDS WEIGHT SELECTIONS`; its answer is the sum of the addresses that were chosen, so that runs can be compared.
+use crate::faults::Fault;
 use crate::members::{Weights, any, members};
-use crate::words::Usage;
 use anyhow::Error;
 use lb_select::ketama::KetamaHashing;
 use lb_select::least::LeastConnections;
@@ -57,10 +57,11 @@ fn number_of(backend: &Backend) -> u64 {
 }
 
 // The number of the backend that was found, or 0.
-fn number_found(found: Option<Backend>) -> u64 {
+fn number_found(found: Result<Option<Backend>, Refusal>) -> Result<u64, Refusal> {
     match &found {
-        Some(backend) => number_of(backend),
-        None => 0,
+        Ok(Some(backend)) => Ok(number_of(backend)),
+        Ok(None) => Ok(0),
+        Err(refusal) => Err(*refusal),
     }
 }
 
@@ -73,8 +74,8 @@ fn sum_of<S: BackendSelection, W: WordSource>(
 ) -> Result<u64, Refusal> {
     let mut sum = 0u64;
     for number in 0..selections {
-        let found = select(alloc, selector, &number.to_le_bytes(), words, LIMIT, &any)?;
-        sum = sum.wrapping_add(number_found(found));
+        let found = select(alloc, selector, &number.to_le_bytes(), words, LIMIT, &any);
+        sum = sum.wrapping_add(number_found(found)?);
     }
     Ok(sum)
 }
@@ -109,14 +110,18 @@ fn load_all(
 // What a line asks for. A weight that is no number means mixed ones, from 1 to 10.
 fn line_of(line: &str) -> Option<Line> {
     let mut words = line.split(' ');
+    let kind = words.next().unwrap_or("");
+    let backends = words.next().unwrap_or("");
+    let weight = words.next().unwrap_or("");
+    let selections = words.next().unwrap_or("");
     Some(Line {
-        kind: kind_of(words.next()?)?,
-        backends: words.next()?.parse().ok()?,
-        weights: match words.next()?.parse::<usize>() {
+        kind: kind_of(kind)?,
+        backends: backends.parse().ok()?,
+        weights: match weight.parse::<usize>() {
             Ok(weight) => Weights::Same(weight),
             Err(_) => Weights::UpTo(10),
         },
-        selections: words.next()?.parse().ok()?,
+        selections: selections.parse().ok()?,
     })
 }
 
@@ -151,7 +156,7 @@ impl Line {
 // Prints a line with its answer.
 fn answer<R: Print>(rt: &R, alloc: Global, line: &str) -> Result<(), Error> {
     let Some(asked) = line_of(line) else {
-        return Err(Usage::UnknownRun)?;
+        return Err(Fault::UnknownRun)?;
     };
     let sum = asked.answer(alloc)?;
     Ok(println!(rt; "{line} {sum}")?)

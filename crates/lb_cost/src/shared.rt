@@ -5,8 +5,9 @@
 use crate::beside::{
     Common, Halves, Handle, LIMIT, Plan, Selects, Spent, Use, is_found, measured, select_until,
 };
+use crate::faults::Fault;
 use crate::groups::measure_group;
-use crate::words::{Usage, number_at, word_at};
+use crate::words::{number_at, word_at};
 use anyhow::Error;
 use lb_balancer::load_balancer::LoadBalancer;
 use lb_balancer::reader::BalancerReader;
@@ -31,6 +32,9 @@ use std::sync::atomic::AtomicBool;
 use std::thread::Threads;
 use std::time::Clock;
 
+// How many updates of a group there are for each pass of checks.
+const CHECKED_EACH: u64 = 10;
+
 // The balancer that is measured.
 type Balancer<S> = LoadBalancer<S, Halves, Rule<NoRule>, NoCheck>;
 
@@ -42,7 +46,7 @@ impl<
     C: HealthCheck + Drop,
 > Selects for BalancerReader<'b, S, D, R, C> {
     fn finds<W: Wait>(&mut self, rt: &W, alloc: Global, key: &[u8]) -> Result<bool, Refusal> {
-        Ok(is_found(self.select(rt, alloc, key, LIMIT)?))
+        is_found(self.select(rt, alloc, key, LIMIT))
     }
 }
 
@@ -54,7 +58,7 @@ impl<
     C: HealthCheck + Drop,
 > Selects for Handle<'h, LoadBalancer<S, D, R, C>> {
     fn finds<W: Wait>(&mut self, rt: &W, alloc: Global, key: &[u8]) -> Result<bool, Refusal> {
-        Ok(is_found(self.shared.select(rt, alloc, key, LIMIT)?))
+        is_found(self.shared.select(rt, alloc, key, LIMIT))
     }
 }
 
@@ -64,12 +68,11 @@ impl<
     R: KeyRule + Drop,
     C: HealthCheck + Drop,
 > Common for LoadBalancer<S, D, R, C> {
-    fn change<W: Log + Threads + Wait + Clock + Copy + Sync>(
+    fn change<W: Wait + Clock + Copy>(
         &self,
         rt: &W,
         alloc: Global,
         _used: Use,
-        _turn: u64,
     ) -> Result<(), Refusal> {
         self.update(rt, alloc, &mut RuntimeClock::new(*rt))
     }
@@ -149,19 +152,19 @@ fn measure_kind<W: Log + Threads + Wait + Clock + Copy + Send + Sync + 'static>(
 }
 
 // The kind that a word names.
-fn kind_of(word: &str) -> Result<Kind, Usage> {
+fn kind_of(word: &str) -> Result<Kind, Fault> {
     match word {
         "fnv" => Ok(Kind::Fnv),
         "ketama" => Ok(Kind::Ketama),
         "least" => Ok(Kind::Least),
         "random" => Ok(Kind::Random),
         "rr" => Ok(Kind::RoundRobin),
-        _ => Err(Usage::UnknownKind),
+        _ => Err(Fault::UnknownKind),
     }
 }
 
 // How a measurement goes by these words. A balancer's threads select by readers unless the last word says otherwise, a group's don't.
-fn plan_of(is_group: bool, words: &[String]) -> Result<Plan, Usage> {
+fn plan_of(is_group: bool, words: &[String]) -> Result<Plan, Fault> {
     let is_by_reader = if is_group {
         word_at(words, 4, "group") == "reader"
     } else {
@@ -177,6 +180,7 @@ fn plan_of(is_group: bool, words: &[String]) -> Result<Plan, Usage> {
         },
         seconds: number_at(words, 3, 0)?,
         turns: 1,
+        checked_each: if is_group { CHECKED_EACH } else { 0 },
     })
 }
 

@@ -3,11 +3,11 @@
 //! permit came back and no thread stays; where groups in which nothing happens take less than a hundredth of a processor for ten seconds;
 //! and, after two minutes or more, where at most a twentieth more is resident than was after one minute. A line each minute shows that it
 //! goes on.
+use crate::faults::Fault;
+use crate::groups::awaited;
 use crate::passes::pass;
 use crate::process::{Process, resident};
-use crate::soak_groups::{
-    Handle, Side, Sides, add_groups, builds_and_flips, leave, settles, side_of, starts, stir,
-};
+use crate::soak_groups::{Handle, Side, Sides, add_groups, builds_and_flips, leave, side_of, stir};
 use crate::soak_threads::{Tally, Users, joined, start_user};
 use crate::words::number_at;
 use anyhow::Error;
@@ -39,23 +39,6 @@ const IDLE: u64 = 10;
 
 const IDLE_TICKS: u64 = 10;
 
-// What went wrong.
-#[derive(Clone, Copy, Debug, thiserror::Error)]
-enum Fault {
-    #[error("a worker couldn't be started")]
-    Unstarted,
-    #[error("an answer was wrong, a call was refused, or a reading fell")]
-    Wrong,
-    #[error("of what groups leave one isn't right, in the order of leave: {0:?}")]
-    Left([bool; 5]),
-    #[error("{0} threads are left")]
-    Threads(u64),
-    #[error("idle groups took {0} hundredths of a second in ten seconds")]
-    Busy(u64),
-    #[error("{0} KiB were resident after a minute, and {1} at the end")]
-    Grown(u64, u64),
-}
-
 // What was done so far.
 #[derive(Clone, Copy)]
 struct Done {
@@ -70,20 +53,6 @@ impl Done {
         self.rounds = self.rounds.saturating_add(1);
         self.turns = self.turns.saturating_add(turns);
     }
-}
-
-// Starts the workers of all groups.
-fn all_start<W: Log + Threads + Wait + Clock + Copy + Send + Sync + Drop + 'static>(
-    rt: &W,
-    alloc: Global,
-    groups: &[Arc<Handle<W>>],
-) -> Result<(), Fault> {
-    for group in groups {
-        if !starts(rt, alloc, &**group) {
-            return Err(Fault::Unstarted);
-        }
-    }
-    Ok(())
 }
 
 // Updates one of the groups, in turn, and now and then checks the targets of a registry, in turn too: one by one, or all at once.
@@ -112,10 +81,9 @@ fn cancel_two<
     C: HealthCheck + Drop,
     W: Wait + Clock,
 >(rt: &W, groups: &[Arc<LoadBalancerGroup<S, D, R, C>>]) {
-    for place in &[1, 3] {
-        if let Some(group) = groups.get(*place) {
-            group.cancel(rt);
-        }
+    if let [_, second, _, fourth] = groups {
+        second.cancel(rt);
+        fourth.cancel(rt);
     }
     thread::sleep(rt, Duration::from_millis(10 * PAUSE));
 }
@@ -154,29 +122,8 @@ fn shared_out<W: Log + Threads + Wait + Clock + Copy + Send + Sync + Drop + 'sta
     stirred(rt, alloc, sides, groups, is_cancelled)
 }
 
-// Threads use the groups while all of a round happens.
+// Threads use the groups while all of a round happens. Returns how many turns they took.
 fn used<W: Log + Threads + Wait + Clock + Copy + Send + Sync + Drop + 'static>(
-    rt: &W,
-    alloc: Global,
-    sides: &Sides<W>,
-    groups: &[Arc<Handle<W>>],
-    is_cancelled: bool,
-    tally: &Arc<Tally>,
-) -> Result<(), Error> {
-    all_start(rt, alloc, groups)?;
-    let mut users = Vec::new(alloc);
-    let told = shared_out(rt, alloc, sides, groups, is_cancelled, tally, &mut users);
-    tally.over.store(true, SeqCst);
-    let are_right = joined(rt, users);
-    told?;
-    if !are_right {
-        Err(Fault::Wrong)?;
-    }
-    Ok(())
-}
-
-// The same, with a tally of its own. Returns how many turns the threads took.
-fn turns<W: Log + Threads + Wait + Clock + Copy + Send + Sync + Drop + 'static>(
     rt: &W,
     alloc: Global,
     sides: &Sides<W>,
@@ -184,8 +131,17 @@ fn turns<W: Log + Threads + Wait + Clock + Copy + Send + Sync + Drop + 'static>(
     is_cancelled: bool,
 ) -> Result<u64, Error> {
     let tally = Arc::new(alloc, Tally::new())?;
-    used(rt, alloc, sides, groups, is_cancelled, &tally)?;
-    Ok(tally.turns.load(SeqCst))
+    let mut users = Vec::new(alloc);
+    let told = shared_out(rt, alloc, sides, groups, is_cancelled, &tally, &mut users);
+    tally.over.store(true, SeqCst);
+    let are_right = joined(rt, users);
+    let turns = tally.turns.load(SeqCst);
+    drop(tally);
+    told?;
+    if !are_right {
+        Err(Fault::Wrong)?;
+    }
+    Ok(turns)
 }
 
 // Drops the groups, and looks at what they leave.
@@ -194,12 +150,13 @@ fn left<W: Wait + Clock + Copy + Drop>(
     alloc: Global,
     sides: &Sides<W>,
     groups: Vec<Arc<Handle<W>>>,
-) -> Result<(), Error> {
-    let left = leave(rt, alloc, sides, groups)?;
-    if left != [true; 5] {
-        Err(Fault::Left(left))?;
+) -> Result<(), Fault> {
+    let left = leave(rt, alloc, sides, groups);
+    if left == [true; 5] {
+        Ok(())
+    } else {
+        Err(Fault::Left(left))
     }
-    Ok(())
 }
 
 // A round on new groups.
@@ -210,26 +167,28 @@ fn round<W: Log + Threads + Wait + Clock + Copy + Send + Sync + Drop + 'static>(
     done: &mut Done,
 ) -> Result<(), Error> {
     let mut groups = Vec::new(alloc);
-    add_groups(rt, alloc, sides, &mut groups)?;
+    if !add_groups(rt, alloc, sides, &mut groups)? {
+        Err(Fault::Unstarted)?;
+    }
     let is_cancelled = done.rounds % 2 == 0;
-    done.note(turns(rt, alloc, sides, groups.as_slice(), is_cancelled)?);
-    left(rt, alloc, sides, groups)
+    done.note(used(rt, alloc, sides, groups.as_slice(), is_cancelled)?);
+    Ok(left(rt, alloc, sides, groups)?)
 }
 
-// Has groups serve what they are updated to.
-fn served<W: Log + Threads + Wait + Clock + Copy + Send + Sync + Drop + 'static>(
-    rt: &W,
-    alloc: Global,
-    groups: &[Arc<Handle<W>>],
-) -> Result<(), Error> {
-    all_start(rt, alloc, groups)?;
+// Updates groups. Returns whether they come to serve that.
+fn are_served<
+    S: BackendSelection,
+    D: ServiceDiscovery + Drop,
+    R: KeyRule + Drop,
+    C: HealthCheck + Drop,
+    W: Wait + Clock + Copy,
+>(rt: &W, alloc: Global, groups: &[Arc<LoadBalancerGroup<S, D, R, C>>]) -> Result<bool, Refusal> {
+    let mut are_served = true;
     for group in groups {
         stir(rt, alloc, &**group, 0)?;
-        if !settles(rt, &**group) {
-            Err(Fault::Wrong)?;
-        }
+        are_served &= awaited(rt, &**group);
     }
-    Ok(())
+    Ok(are_served)
 }
 
 // How much processor time is taken in ten seconds, in hundredths of a second.
@@ -244,8 +203,12 @@ fn idle<
     W: Log + Threads + Wait + Clock + Files + AllocGlobal + Copy + Send + Sync + Drop + 'static,
 >(rt: &W, alloc: Global, sides: &Sides<W>) -> Result<(), Error> {
     let mut groups = Vec::new(alloc);
-    add_groups(rt, alloc, sides, &mut groups)?;
-    served(rt, alloc, groups.as_slice())?;
+    if !add_groups(rt, alloc, sides, &mut groups)? {
+        Err(Fault::Unstarted)?;
+    }
+    if !are_served(rt, alloc, groups.as_slice())? {
+        Err(Fault::Wrong)?;
+    }
     let taken = taken(rt)?;
     left(rt, alloc, sides, groups)?;
     if taken >= IDLE_TICKS {

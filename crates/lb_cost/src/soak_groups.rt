@@ -3,7 +3,6 @@
 use crate::members::{Weights, member, members};
 use crate::passes::Flips;
 use crate::slots::{new_gate, take_gate};
-use lb_balancer_core::configured::Configured;
 use lb_balancer_group::group::LoadBalancerGroup;
 use lb_crowd::counted::{Counted, Counting, Counts};
 use lb_crowd::crowd::{ends, is_free, lives_none};
@@ -20,15 +19,13 @@ use lb_threads_core::clock::RuntimeClock;
 use lb_threads_core::gate::SelectorRebuildGate;
 use lb_threads_core::keyed::NoRule;
 use lb_threads_core::registry::HealthRegistry;
-use lb_threads_group::group::SharedGroup;
 use log::Log;
 use std::alloc::{AllocError, Global};
 use std::sync::atomic::AtomicU64;
 use std::sync::atomic::Ordering::SeqCst;
 use std::sync::{Arc, Wait};
-use std::thread;
 use std::thread::Threads;
-use std::time::{Clock, Duration};
+use std::time::Clock;
 
 /// How many backends a generation has: their numbers are from four times the generation on, and their weights 1 to 4.
 pub const MEMBERS: u32 = 4;
@@ -197,8 +194,8 @@ const EACH_GROUP: [(bool, bool, [Kind; 2]); 4] = [
     (true, true, [Kind::Random, Kind::Random]),
 ];
 
-/// Adds the four groups, without workers.
-pub fn add_groups<W: Wait + Clock + Copy + Drop>(
+// Adds the four groups, without workers.
+fn make_groups<W: Wait + Clock + Copy + Drop>(
     rt: &W,
     alloc: Global,
     sides: &Sides<W>,
@@ -216,6 +213,17 @@ pub fn add_groups<W: Wait + Clock + Copy + Drop>(
     Ok(())
 }
 
+/// Adds the four groups, whose workers are started. Returns whether each could be.
+pub fn add_groups<W: Log + Threads + Wait + Clock + Copy + Send + Sync + Drop + 'static>(
+    rt: &W,
+    alloc: Global,
+    sides: &Sides<W>,
+    groups: &mut Vec<Arc<Handle<W>>>,
+) -> Result<bool, Refusal> {
+    make_groups(rt, alloc, sides, groups)?;
+    Ok(all_start(rt, alloc, groups.as_slice()))
+}
+
 /// Returns how many builds were begun, and how many cells have flipped.
 pub fn builds_and_flips<W: Drop>(sides: &Sides<W>) -> (u64, u64) {
     let [one, two] = sides;
@@ -227,50 +235,21 @@ pub fn builds_and_flips<W: Drop>(sides: &Sides<W>) -> (u64, u64) {
     )
 }
 
-// Adds what handles share with their workers.
-fn add_shared<
-    S: BackendSelection,
-    D: ServiceDiscovery + Drop,
-    R: KeyRule + Drop,
-    C: HealthCheck + Drop,
->(
-    shared: &mut Vec<Arc<SharedGroup<Configured<S>, R, C>>>,
-    groups: &[Arc<LoadBalancerGroup<S, D, R, C>>],
-) -> Result<(), AllocError> {
-    for group in groups {
-        shared.push(Arc::try_clone(group.shared())?)?;
-    }
-    Ok(())
-}
-
-// Whether the workers of groups end whose handles are gone.
-fn all_end<S: BackendSelection, R: KeyRule + Drop, C: HealthCheck + Drop, W: Wait + Clock>(
-    rt: &W,
-    groups: &[Arc<SharedGroup<S, R, C>>],
-) -> bool {
-    let mut have_ended = true;
-    for group in groups {
-        have_ended &= ends(rt, &**group, TURNS);
-    }
-    have_ended
-}
-
-// Drops handles. Returns whether the workers of their groups end.
+// Drops a handle. Returns whether the workers of its group end.
 fn let_go<
     S: BackendSelection,
     D: ServiceDiscovery + Drop,
     R: KeyRule + Drop,
     C: HealthCheck + Drop,
     W: Wait + Clock,
->(
-    rt: &W,
-    alloc: Global,
-    groups: Vec<Arc<LoadBalancerGroup<S, D, R, C>>>,
-) -> Result<bool, AllocError> {
-    let mut shared = Vec::new(alloc);
-    add_shared(&mut shared, groups.as_slice())?;
-    drop(groups);
-    Ok(all_end(rt, shared.as_slice()))
+>(rt: &W, group: Arc<LoadBalancerGroup<S, D, R, C>>) -> bool {
+    match Arc::try_clone(group.shared()) {
+        Ok(shared) => {
+            drop(group);
+            ends(rt, &*shared, TURNS)
+        }
+        Err(_) => false,
+    }
 }
 
 /// Drops the groups. Returns whether their workers end, no more selectors than the slots and one lived on a gate, none lives on, each
@@ -280,27 +259,34 @@ pub fn leave<W: Wait + Clock + Copy + Drop>(
     alloc: Global,
     sides: &Sides<W>,
     groups: Vec<Arc<Handle<W>>>,
-) -> Result<[bool; 5], Refusal> {
-    let have_ended = let_go(rt, alloc, groups)?;
+) -> [bool; 5] {
+    let mut have_ended = true;
+    for group in groups {
+        have_ended &= let_go(rt, group);
+    }
     let [one, two] = sides;
     let [most, none, free, empty] = one.left(rt, alloc);
     let [most_too, none_too, free_too, empty_too] = two.left(rt, alloc);
-    Ok([
+    [
         have_ended,
         most & most_too,
         none & none_too,
         free & free_too,
         empty & empty_too,
-    ])
+    ]
 }
 
-/// Starts a group's workers. Returns whether each could be started.
-pub fn starts<W: Log + Threads + Wait + Clock + Copy + Send + Sync + Drop + 'static>(
+// Starts the workers of all groups. Returns whether each could be started.
+fn all_start<W: Log + Threads + Wait + Clock + Copy + Send + Sync + Drop + 'static>(
     rt: &W,
     alloc: Global,
-    group: &Handle<W>,
+    groups: &[Arc<Handle<W>>],
 ) -> bool {
-    group.start_workers(rt, alloc, RuntimeClock::new(*rt)) == 0
+    let mut unstarted = 0;
+    for group in groups {
+        unstarted |= group.start_workers(rt, alloc, RuntimeClock::new(*rt));
+    }
+    unstarted == 0
 }
 
 /// Updates a group, and sets a flag and a load of one of the new backends.
@@ -315,22 +301,4 @@ pub fn stir<
     let backend = member_of(alloc, generation, (turn % 4) as u32);
     group.backends().set_enable(rt, &backend, turn % 3 == 0);
     group.set_load(rt, alloc, &backend, turn)
-}
-
-/// Returns whether each slot of a group serves its newest generation within so many turns of ten milliseconds.
-pub fn settles<
-    S: BackendSelection,
-    D: ServiceDiscovery + Drop,
-    R: KeyRule + Drop,
-    C: HealthCheck + Drop,
-    W: Wait + Clock,
->(rt: &W, group: &LoadBalancerGroup<S, D, R, C>) -> bool {
-    let newest = group.backend_generation(rt);
-    for _ in 0..TURNS {
-        if group.selectors_ready_for(rt, newest) {
-            return true;
-        }
-        thread::sleep(rt, Duration::from_millis(10));
-    }
-    false
 }

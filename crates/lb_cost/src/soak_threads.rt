@@ -76,14 +76,6 @@ fn generation_of(backend: &Backend) -> u64 {
     }
 }
 
-// The generation of what was found.
-fn generation_found(found: Option<Backend>) -> Option<u64> {
-    match &found {
-        Some(backend) => Some(generation_of(backend)),
-        None => None,
-    }
-}
-
 // Whether what was found is of one of these generations. None is found in generation 0, and where none is ready.
 fn is_within(found: Option<u64>, least: u64, most: u64) -> bool {
     match found {
@@ -109,7 +101,11 @@ fn reads<S: BackendSelection, D: ServiceDiscovery + Drop, R: KeyRule + Drop, C: 
 
 // The generation of what was found, where no memory was refused.
 fn told(found: Result<Option<Backend>, Refusal>) -> Result<Option<u64>, Refusal> {
-    Ok(generation_found(found?))
+    match &found {
+        Ok(Some(backend)) => Ok(Some(generation_of(backend))),
+        Ok(None) => Ok(None),
+        Err(refusal) => Err(*refusal),
+    }
 }
 
 // Selects by a reader of a slot, which stays for some milliseconds or doesn't. Returns whether what was found is of the reader's

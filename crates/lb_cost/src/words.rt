@@ -1,28 +1,15 @@
 //! The words of the command line, and the lines that are printed.
+use crate::faults::Fault;
 use std::io;
-use thiserror::Error;
-
-/// Why there is nothing to measure.
-#[derive(Clone, Copy, Debug, Error)]
-pub enum Usage {
-    #[error("usage: lb_cost [board | group | groups | health | rebuilds | refused | selects | shared | soak] [WORD ..]")]
-    UnknownWord,
-    #[error("a selector that threads share is: fnv | rr")]
-    UnknownKind,
-    #[error("a line of a run is: fnv | rr | ketama | least, BACKENDS, WEIGHT, SELECTIONS")]
-    UnknownRun,
-    #[error("a word that is to be a number, from 0 to 4294967295, is none")]
-    NoNumber,
-}
 
 /// Returns the number at a place, and this one where there is no word. Refused `NoNumber` where the word is no number.
-pub fn number_at(numbers: &[String], place: usize, default: u32) -> Result<u32, Usage> {
+pub fn number_at(numbers: &[String], place: usize, default: u32) -> Result<u32, Fault> {
     let Some(text) = numbers.get(place) else {
         return Ok(default);
     };
     match text.as_str().parse() {
         Ok(number) => Ok(number),
-        Err(_) => Err(Usage::NoNumber),
+        Err(_) => Err(Fault::NoNumber),
     }
 }
 
