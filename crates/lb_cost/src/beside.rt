@@ -13,7 +13,7 @@ use std::sync::Wait;
 use std::sync::atomic::Ordering::SeqCst;
 use std::sync::atomic::{AtomicBool, AtomicU64};
 use std::thread;
-use std::thread::{Threads, join};
+use std::thread::Threads;
 use std::time::{Clock, Duration};
 
 /// As many candidates as a selection looks at; the first ready one is accepted.
@@ -52,7 +52,7 @@ impl ServiceDiscovery for Halves {
 }
 
 /// How threads use what they share.
-#[derive(Clone, Copy, PartialEq, Eq)]
+#[derive(Clone, Copy)]
 pub enum Use {
     /// They select through the handle that all share.
     Handle,
@@ -75,26 +75,6 @@ pub struct Plan {
     pub checked_each: u64,
 }
 
-impl Plan {
-    // Whether these were enough turns, which took so many nanoseconds.
-    fn is_done(self, turns: u64, nanoseconds: u128) -> bool {
-        let wanted = u128::from(self.seconds) * 1_000_000_000;
-        nanoseconds >= wanted && turns >= u64::from(self.turns)
-    }
-
-    // Whether targets are checked after this turn.
-    fn is_checked(self, turn: u64) -> bool {
-        turn.checked_rem(self.checked_each) == Some(0)
-    }
-
-    // Sleeps between two turns, but for readers that stay.
-    fn pause<W: Clock>(self, rt: &W) {
-        if self.used != Use::Stay {
-            thread::sleep(rt, Duration::from_millis(PAUSE));
-        }
-    }
-}
-
 /// What a measurement found, in nanoseconds but for the selections.
 #[derive(Clone, Copy)]
 pub struct Spent {
@@ -107,12 +87,30 @@ pub struct Spent {
 }
 
 impl Spent {
+    /// Returns that nothing was found but so many selections.
+    pub fn selected(selections: u64) -> Spent {
+        Spent {
+            selections,
+            whole: 0,
+            longest: 0,
+            sum: 0,
+        }
+    }
+
     // Notes a turn of a measurement that began at `start`.
     fn note(&mut self, start: u128, begun: u128, ended: u128) {
         let took = ended.saturating_sub(begun);
         self.longest = self.longest.max(took);
         self.sum = self.sum.saturating_add(took);
         self.whole = ended.saturating_sub(start);
+    }
+
+    // Adds what another thread found.
+    fn add(&mut self, other: Spent) {
+        self.selections = self.selections.wrapping_add(other.selections);
+        self.whole = self.whole.max(other.whole);
+        self.longest = self.longest.max(other.longest);
+        self.sum = self.sum.max(other.sum);
     }
 }
 
@@ -126,7 +124,7 @@ pub trait Common {
         used: Use,
     ) -> Result<(), Refusal>;
 
-    /// Selects, as the thread of this number, until the measurement is over. Returns how often.
+    /// Selects, as the thread of this number, until the measurement is over.
     fn select_all<W: Wait + Clock>(
         &self,
         rt: &W,
@@ -134,7 +132,7 @@ pub trait Common {
         used: Use,
         number: u64,
         over: &AtomicBool,
-    ) -> Result<u64, Refusal>;
+    ) -> Result<Spent, Refusal>;
 }
 
 /// What one thread selects through.
@@ -154,24 +152,6 @@ pub fn is_found<T: Drop>(found: Result<Option<T>, Refusal>) -> Result<bool, Refu
     Ok(found?.is_some())
 }
 
-// Selects as often as a thread does before it looks whether the measurement is over. Returns how often a backend was found.
-fn select_batch<T: Selects, W: Wait>(
-    rt: &W,
-    alloc: Global,
-    own: &mut T,
-    key: &mut u64,
-) -> Result<u64, Refusal> {
-    let mut count = 0u64;
-    for _ in 0..BATCH {
-        *key = key
-            .wrapping_mul(6364136223846793005)
-            .wrapping_add(1442695040888963407);
-        let is_found = own.finds(rt, alloc, &key.to_le_bytes())?;
-        count = count.wrapping_add(u64::from(is_found));
-    }
-    Ok(count)
-}
-
 /// Selects by keys of this thread's own until the measurement is over. Returns how often a backend was found.
 pub fn select_until<T: Selects, W: Wait>(
     rt: &W,
@@ -179,19 +159,25 @@ pub fn select_until<T: Selects, W: Wait>(
     own: &mut T,
     number: u64,
     over: &AtomicBool,
-) -> Result<u64, Refusal> {
+) -> Result<Spent, Refusal> {
     let mut key = number;
     let mut count = 0u64;
     for _ in rt.forever() {
-        count = count.wrapping_add(select_batch(rt, alloc, own, &mut key)?);
+        for _ in 0..BATCH {
+            key = key
+                .wrapping_mul(6364136223846793005)
+                .wrapping_add(1442695040888963407);
+            let is_found = own.finds(rt, alloc, &key.to_le_bytes())?;
+            count = count.wrapping_add(u64::from(is_found));
+        }
         if over.load(SeqCst) {
             break;
         }
     }
-    Ok(count)
+    Ok(Spent::selected(count))
 }
 
-// Changes it turn after turn, as the plan says.
+// Changes it turn after turn, as the plan says, with pauses but where readers stay.
 fn turned<T: Common + LendsToThreads, W: Log + Threads + Wait + Clock + Copy + Sync>(
     rt: &W,
     alloc: Global,
@@ -204,67 +190,59 @@ where
 {
     let mut clock = RuntimeClock::new(*rt);
     let start = clock.now();
-    let mut spent = Spent {
-        selections: 0,
-        whole: 0,
-        longest: 0,
-        sum: 0,
-    };
+    let wanted = u128::from(plan.seconds) * 1_000_000_000;
+    let mut spent = Spent::selected(0);
     for turn in 1..u64::MAX {
         let begun = clock.now();
         shared.change(rt, alloc, plan.used)?;
-        if plan.is_checked(turn) {
+        if turn.checked_rem(plan.checked_each) == Some(0) {
             lend(shared).run_health_check(rt, alloc, false)?;
         }
         spent.note(start, begun, clock.now());
-        if plan.is_done(turn, spent.whole) {
+        if spent.whole >= wanted && turn >= u64::from(plan.turns) {
             break;
         }
-        plan.pause(rt);
+        if !matches!(plan.used, Use::Stay) {
+            thread::sleep(rt, Duration::from_millis(PAUSE));
+        }
     }
     Ok(spent)
 }
 
-// Changes it as the plan says. The measurement is over then, also where a change was refused.
-fn changed<T: Common + LendsToThreads, W: Log + Threads + Wait + Clock + Copy + Sync>(
+// The work of the thread of this number: the first one changes what all share, and then the measurement is over, also where a change was
+// refused; the others select until then.
+fn worked<T: Common + LendsToThreads, W: Log + Threads + Wait + Clock + Copy + Sync>(
     rt: &W,
     alloc: Global,
     shared: &T,
     plan: Plan,
     over: &AtomicBool,
+    number: u64,
 ) -> Result<Spent, Refusal>
 where
     T::Rule: Send,
     T::Check: Send + Sync,
 {
-    let spent = turned(rt, alloc, shared, plan);
-    over.store(true, SeqCst);
-    spent
+    match number.checked_sub(1) {
+        Some(number) => shared.select_all(rt, alloc, plan.used, number, over),
+        None => {
+            let spent = turned(rt, alloc, shared, plan);
+            over.store(true, SeqCst);
+            spent
+        }
+    }
 }
 
-// The sum of what threads counted.
-fn sum_of(counts: &[Result<u64, Refusal>]) -> Result<u64, Refusal> {
-    let mut sum = 0u64;
-    for count in counts {
-        match count {
-            Ok(count) => sum = sum.wrapping_add(*count),
+// What all threads found together.
+fn sum_of(told: &[Result<Spent, Refusal>]) -> Result<Spent, Refusal> {
+    let mut sum = Spent::selected(0);
+    for spent in told {
+        match spent {
+            Ok(spent) => sum.add(*spent),
             Err(refusal) => return Err(*refusal),
         }
     }
     Ok(sum)
-}
-
-// Selections of all threads; how many.
-fn all_select<T: Common + Sync, W: Threads + Wait + Clock + Sync>(
-    rt: &W,
-    alloc: Global,
-    shared: &T,
-    plan: Plan,
-    over: &AtomicBool,
-) -> Result<u64, Refusal> {
-    let selects = |number: usize| shared.select_all(rt, alloc, plan.used, number as u64, over);
-    let counts = thread::map_indices(rt, alloc, plan.threads as usize, &selects)?;
-    sum_of(counts.as_slice())
 }
 
 /// Has threads select while another one changes what they share, as the plan says.
@@ -279,12 +257,8 @@ where
     T::Check: Send + Sync,
 {
     let over = AtomicBool::new(false);
-    let (selections, spent) = join(
-        rt,
-        || all_select(rt, alloc, shared, plan, &over),
-        || changed(rt, alloc, shared, plan, &over),
-    );
-    let mut spent = spent?;
-    spent.selections = selections?;
-    Ok(spent)
+    let works = |number: usize| worked(rt, alloc, shared, plan, &over, number as u64);
+    let threads = (plan.threads as usize).saturating_add(1);
+    let told = thread::map_indices(rt, alloc, threads, &works)?;
+    sum_of(told.as_slice())
 }

@@ -6,7 +6,6 @@ use crate::words::{number_at, print_line};
 use anyhow::Error;
 use lb_rebuild::board::{Board, GroupPass, WritingPass};
 use lb_select_base::moments::MomentSource;
-use lb_select_base::refusal::Refusal;
 use lb_threads_core::clock::RuntimeClock;
 use std::alloc::{AllocError, Global};
 use std::sync::atomic::AtomicBool;
@@ -77,27 +76,6 @@ fn read_all<R: Threads + Clock + Copy + Sync>(
     Ok(spent)
 }
 
-// So many threads read a new board while another one raises it; how long that took, in nanoseconds.
-fn measured<R: Threads + Clock + Copy + Sync>(
-    rt: &R,
-    alloc: Global,
-    readers: usize,
-    times: u32,
-) -> Result<u128, Refusal> {
-    let (board, writer) = Board::new(alloc, 1)?;
-    let shared = &board;
-    let is_done = AtomicBool::new(false);
-    let done = &is_done;
-    let (spent, ()) = join(
-        rt,
-        || read_all(rt, alloc, shared, readers, times, done),
-        move ||
-            requires { writer.board ≡ shared.now }
-        { update_until(rt, shared, writer, done) },
-    );
-    Ok(spent?)
-}
-
 /// Measures, and prints how many readings there were; with a third word the nanoseconds too.
 pub fn run<R: Threads + Clock + Print + Copy + Sync>(
     rt: &R,
@@ -106,7 +84,18 @@ pub fn run<R: Threads + Clock + Print + Copy + Sync>(
 ) -> Result<(), Error> {
     let readers = number_at(numbers, 0, 2)?.min(64);
     let times = number_at(numbers, 1, 1000)?;
-    let spent = measured(rt, alloc, readers as usize, times)?;
+    let (board, writer) = Board::new(alloc, 1)?;
+    let shared = &board;
+    let is_done = AtomicBool::new(false);
+    let done = &is_done;
+    let (spent, ()) = join(
+        rt,
+        || read_all(rt, alloc, shared, readers as usize, times, done),
+        move ||
+            requires { writer.board ≡ shared.now }
+        { update_until(rt, shared, writer, done) },
+    );
+    let spent = spent?;
     print_line(rt, "readings", u128::from(readers) * u128::from(times))?;
     if numbers.len() > 2 {
         print_line(rt, "nanoseconds", spent)?;

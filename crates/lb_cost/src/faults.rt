@@ -19,7 +19,7 @@ pub enum Fault {
     Unstarted,
     #[error("an answer was wrong, a call was refused, or a reading fell")]
     Wrong,
-    #[error("of what groups leave one isn't right, in the order of leave: {0:?}")]
+    #[error("of what groups leave one isn't right, in the order of Groups::leave: {0:?}")]
     Left([bool; 5]),
     #[error("{0} threads are left")]
     Threads(u64),

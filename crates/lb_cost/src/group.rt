@@ -5,7 +5,6 @@ ghost use Rattle.std.specs.Prelude.{◌≡◌, IfOk, Some, slice_get};
 ghost use Rattle.lb_rebuild_core.specs.Stands.{SameSite};
 ghost use Rattle.lb_rebuild_core.specs.Values.{configs_of};
 
-use crate::faults::Fault;
 use crate::members::{Weights, members};
 use crate::words::{number_at, print_line};
 use anyhow::Error;
@@ -19,11 +18,9 @@ use lb_select::least::LeastConnections;
 use lb_select_base::backend::Backend;
 use lb_select_base::moments::MomentSource;
 use lb_select_base::refusal::Refusal;
-use lb_select_base::walk::BackendSelection;
 use lb_threads_core::clock::RuntimeClock;
-use std::alloc::{AllocError, Global};
+use std::alloc::Global;
 use std::collections::BTreeSet;
-use std::io;
 use std::time::Clock;
 
 // The step after which a round ends; a round that ends before `DESTROYED` leaves its slot busy.
@@ -39,17 +36,17 @@ const READ: u32 = 4;
 
 const DESTROYED: u32 = 5;
 
-// The calls that are measured, each at its place, none of them yet.
-const CALLS: [(&str, u128); 9] = [
-    ("clock", u128::MAX),
-    ("schedule", u128::MAX),
-    ("ask", u128::MAX),
-    ("fail", u128::MAX),
-    ("publish", u128::MAX),
-    ("enter", u128::MAX),
-    ("leave", u128::MAX),
-    ("take_retired", u128::MAX),
-    ("destroyed", u128::MAX),
+// The calls that are measured, each by its place.
+const CALLS: [&str; 9] = [
+    "clock",
+    "schedule",
+    "ask",
+    "fail",
+    "publish",
+    "enter",
+    "leave",
+    "take_retired",
+    "destroyed",
 ];
 
 const CLOCK: usize = 0;
@@ -79,37 +76,36 @@ struct Plan {
     until: u32,
 }
 
-// The least time of each call so far, by its name, in nanoseconds. The reading of the clock is in it.
+// The least time of each call so far, in nanoseconds. The reading of the clock is in it.
 #[derive(Drop)]
 struct Costs<R> {
     clock: RuntimeClock<R>,
-    start: u128,
-    least: [(&'static str, u128); 9],
+    least: [u128; 9],
 }
 
 impl<R: Clock> Costs<R> {
-    // Notes the moment at which a call begins.
-    fn begin(&mut self) {
-        self.start = self.clock.now();
+    // The moment at which a call begins.
+    fn begin(&mut self) -> u128 {
+        self.clock.now()
     }
 
-    // Notes that the call has ended.
-    fn end(&mut self, call: usize) {
-        let spent = self.clock.now().saturating_sub(self.start);
-        if let Some((_, least)) = self.least.get_mut(call) {
+    // Notes that a call has ended.
+    fn end(&mut self, call: usize, start: u128) {
+        let spent = self.clock.now().saturating_sub(start);
+        if let Some(least) = self.least.get_mut(call) {
             *least = spent.min(*least);
         }
     }
 }
 
 // Asks a slot for a job; another answer is `NothingInFlight`.
-fn asked<S: BackendSelection, R: Clock>(
-    group: &mut Slots<S>,
+fn asked<R: Clock>(
+    group: &mut Slots<LeastConnections>,
     gate: &mut GateCore,
     slot: usize,
     now: u128,
     costs: &mut Costs<R>,
-) -> Result<Job<S>, Refusal>
+) -> Result<Job<LeastConnections>, Refusal>
     requires { gate.old.id ≡ group.old.gate }
     ensures gate { gate.new.id ≡ gate.old.id }
     ensures site { SameSite group.old group.new }
@@ -117,9 +113,9 @@ fn asked<S: BackendSelection, R: Clock>(
     ensures permit { IfOk result (λ j. j.permit ≡ group.new.gate) }
     ensures config { IfOk result (λ j. slice_get (configs_of group.new) j.slot ≡ Some j.config) }
 {
-    costs.begin();
+    let start = costs.begin();
     let answer = group.ask(slot, gate, now);
-    costs.end(ASK);
+    costs.end(ASK, start);
     match answer? {
         Ask::Cancelled | Ask::Building | Ask::Nothing | Ask::NotDue(_) | Ask::Busy => Err(
             Refusal::NothingInFlight,
@@ -129,9 +125,9 @@ fn asked<S: BackendSelection, R: Clock>(
 }
 
 // Gives a job back as failed.
-fn failed<S: BackendSelection, R: Clock>(
-    group: &mut Slots<S>,
-    job: Job<S>,
+fn failed<R: Clock>(
+    group: &mut Slots<LeastConnections>,
+    job: Job<LeastConnections>,
     gate: &mut GateCore,
     now: u128,
     costs: &mut Costs<R>,
@@ -143,19 +139,19 @@ fn failed<S: BackendSelection, R: Clock>(
     ensures gate { gate.new.id ≡ gate.old.id }
     ensures site { SameSite group.old group.new }
 {
-    costs.begin();
+    let start = costs.begin();
     let answer = group.fail(job, gate, now);
-    costs.end(FAIL);
+    costs.end(FAIL, start);
     if let Err(job) = answer {
         end_job(job);
     }
 }
 
 // Builds a job and publishes the selector, or closes it.
-fn published<S: BackendSelection, R: Clock>(
+fn published<R: Clock>(
     alloc: Global,
-    group: &mut Slots<S>,
-    job: Job<S>,
+    group: &mut Slots<LeastConnections>,
+    job: Job<LeastConnections>,
     until: u32,
     costs: &mut Costs<R>,
 ) -> Result<(), Refusal>
@@ -175,9 +171,9 @@ fn published<S: BackendSelection, R: Clock>(
         end_built(built);
         return Ok(());
     }
-    costs.begin();
+    let start = costs.begin();
     let answer = group.publish(built);
-    costs.end(PUBLISH);
+    costs.end(PUBLISH, start);
     if let Err(built) = answer {
         end_built(built);
     }
@@ -185,20 +181,20 @@ fn published<S: BackendSelection, R: Clock>(
 }
 
 // Enters a slot and leaves it again.
-fn read<S: BackendSelection, R: Clock>(
-    group: &mut Slots<S>,
+fn read<R: Clock>(
+    group: &mut Slots<LeastConnections>,
     slot: usize,
     costs: &mut Costs<R>,
 ) -> Result<(), Refusal>
     ensures { SameSite group.old group.new }
 {
-    costs.begin();
+    let start = costs.begin();
     let entry = group.enter(slot);
-    costs.end(ENTER);
+    costs.end(ENTER, start);
     let reader = entry?;
-    costs.begin();
+    let start = costs.begin();
     let answer = group.leave(reader);
-    costs.end(LEAVE);
+    costs.end(LEAVE, start);
     if let Err(reader) = answer {
         end_reader(reader);
     }
@@ -206,8 +202,8 @@ fn read<S: BackendSelection, R: Clock>(
 }
 
 // Takes the retired selector out of a slot, destroys it and reports it.
-fn destroyed<S: BackendSelection, R: Clock>(
-    group: &mut Slots<S>,
+fn destroyed<R: Clock>(
+    group: &mut Slots<LeastConnections>,
     gate: &mut GateCore,
     slot: usize,
     costs: &mut Costs<R>,
@@ -216,13 +212,13 @@ fn destroyed<S: BackendSelection, R: Clock>(
     ensures gate { gate.new.id ≡ gate.old.id }
     ensures site { SameSite group.old group.new }
 {
-    costs.begin();
+    let start = costs.begin();
     let taken = group.take_retired(slot);
-    costs.end(TAKE_RETIRED);
+    costs.end(TAKE_RETIRED, start);
     let permit = taken?.destroy();
-    costs.begin();
+    let start = costs.begin();
     let answer = group.destroyed(slot, permit, gate);
-    costs.end(REPORT);
+    costs.end(REPORT, start);
     if let Err(permit) = answer {
         end_permit(permit);
     }
@@ -230,27 +226,27 @@ fn destroyed<S: BackendSelection, R: Clock>(
 }
 
 // Schedules a membership.
-fn schedule<S: BackendSelection, R: Clock>(
+fn schedule<R: Clock>(
     alloc: Global,
-    group: &mut Slots<S>,
+    group: &mut Slots<LeastConnections>,
     set: BTreeSet<Backend>,
     costs: &mut Costs<R>,
 ) -> Result<(), Refusal>
     ensures { SameSite group.old group.new }
 {
-    costs.begin();
-    costs.end(CLOCK);
-    costs.begin();
+    let start = costs.begin();
+    costs.end(CLOCK, start);
+    let start = costs.begin();
     let scheduled = group.schedule(alloc, set, 0)?;
-    costs.end(SCHEDULE);
+    costs.end(SCHEDULE, start);
     let _turns = scheduled.turns;
     Ok(())
 }
 
 // Takes a slot through a failed build and a published one, until one of the steps above. The second ask comes after the retry's delay.
-fn round<S: BackendSelection, R: Clock>(
+fn round<R: Clock>(
     alloc: Global,
-    group: &mut Slots<S>,
+    group: &mut Slots<LeastConnections>,
     gate: &mut GateCore,
     slot: usize,
     until: u32,
@@ -281,9 +277,9 @@ fn round<S: BackendSelection, R: Clock>(
 }
 
 // All rounds; the newest generation after them.
-fn rounds<S: BackendSelection, R: Clock>(
+fn rounds<R: Clock>(
     alloc: Global,
-    group: &mut Slots<S>,
+    group: &mut Slots<LeastConnections>,
     gate: &mut GateCore,
     plan: Plan,
     costs: &mut Costs<R>,
@@ -304,49 +300,19 @@ fn rounds<S: BackendSelection, R: Clock>(
     Ok(group.newest())
 }
 
-// The configurations of so many slots.
-fn configs(alloc: Global, slots: u32) -> Result<Vec<()>, AllocError> {
-    let mut configs = Vec::new(alloc);
-    for _ in 0..slots {
-        configs.push(())?;
-    }
-    Ok(configs)
-}
-
-// A group with this gate goes through all rounds; its newest generation.
+// A group of so many slots with this gate goes through all rounds; its newest generation.
 fn measured<R: Clock>(
     alloc: Global,
     gate: &mut GateCore,
     plan: Plan,
     costs: &mut Costs<R>,
 ) -> Result<u64, Refusal> {
-    let configs = configs(alloc, plan.slots)?;
+    let mut configs = Vec::new(alloc);
+    for _ in 0..plan.slots {
+        configs.push(())?;
+    }
     let mut group: Slots<LeastConnections> = Slots::new(alloc, gate, configs)?;
     rounds(alloc, &mut group, gate, plan, costs)
-}
-
-// The same, with a gate of its own.
-fn newest<R: Clock>(alloc: Global, plan: Plan, costs: &mut Costs<R>) -> Result<u64, Refusal> {
-    let mut gate = GateCore::new(alloc)?;
-    measured(alloc, &mut gate, plan, costs)
-}
-
-// What is measured, by these words.
-fn plan_of(numbers: &[String]) -> Result<Plan, Fault> {
-    Ok(Plan {
-        backends: number_at(numbers, 0, 10)?,
-        slots: number_at(numbers, 1, 2)?,
-        rounds: number_at(numbers, 2, 4)?,
-        until: number_at(numbers, 3, DESTROYED)?,
-    })
-}
-
-// Prints the least nanoseconds of each call.
-fn print_costs<R: Print>(rt: &R, costs: &[(&'static str, u128); 9]) -> io::Result<()> {
-    for (call, least) in costs {
-        print_line(rt, *call, *least)?;
-    }
-    Ok(())
 }
 
 /// Measures, and prints the newest generation; with a fifth word the least nanoseconds of each call too.
@@ -355,16 +321,23 @@ pub fn run<R: Clock + Print + Copy>(
     alloc: Global,
     numbers: &[String],
 ) -> Result<(), Error> {
-    let plan = plan_of(numbers)?;
+    let plan = Plan {
+        backends: number_at(numbers, 0, 10)?,
+        slots: number_at(numbers, 1, 2)?,
+        rounds: number_at(numbers, 2, 4)?,
+        until: number_at(numbers, 3, DESTROYED)?,
+    };
     let mut costs = Costs {
         clock: RuntimeClock::new(*rt),
-        start: 0,
-        least: CALLS,
+        least: [u128::MAX; 9],
     };
-    let newest = newest(alloc, plan, &mut costs)?;
+    let mut gate = GateCore::new(alloc)?;
+    let newest = measured(alloc, &mut gate, plan, &mut costs)?;
     print_line(rt, "generation", u128::from(newest))?;
     if numbers.len() > 4 {
-        print_costs(rt, &costs.least)?;
+        for (call, least) in CALLS.iter().zip(costs.least.iter()) {
+            print_line(rt, *call, *least)?;
+        }
     }
     Ok(())
 }

@@ -3,7 +3,6 @@ use crate::beside::{
     Common, Halves, Handle, LIMIT, Plan, Selects, Spent, Use, is_found, measured, select_until,
 };
 use crate::passes::Flips;
-use crate::slots::unset;
 use lb_balancer_group::group::LoadBalancerGroup;
 use lb_balancer_group::reader::GroupReader;
 use lb_health_core::health_check::HealthCheck;
@@ -46,7 +45,7 @@ impl<
     }
 }
 
-// Selects at a slot, where the candidate is looked at for a millisecond, until the measurement is over; how often.
+// Selects at a slot, where the candidate is looked at for a millisecond, until the measurement is over.
 fn stayed<
     S: BackendSelection,
     D: ServiceDiscovery + Drop,
@@ -59,7 +58,7 @@ fn stayed<
     group: &LoadBalancerGroup<S, D, R, C>,
     slot: usize,
     over: &AtomicBool,
-) -> Result<u64, Refusal> {
+) -> Result<Spent, Refusal> {
     let accept = |_backend: &Backend, ready: bool| {
         thread::sleep(rt, Duration::from_millis(1));
         ready
@@ -72,7 +71,7 @@ fn stayed<
             break;
         }
     }
-    Ok(count)
+    Ok(Spent::selected(count))
 }
 
 /// Waits until all slots serve the newest generation, a minute at most. Returns whether they do.
@@ -106,7 +105,7 @@ impl<
         used: Use,
     ) -> Result<(), Refusal> {
         self.update(rt, alloc, &mut RuntimeClock::new(*rt))?;
-        if used == Use::Stay {
+        if matches!(used, Use::Stay) {
             let _ = awaited(rt, self);
         }
         Ok(())
@@ -119,7 +118,7 @@ impl<
         used: Use,
         number: u64,
         over: &AtomicBool,
-    ) -> Result<u64, Refusal> {
+    ) -> Result<Spent, Refusal> {
         match used {
             Use::Handle => select_until(rt, alloc, &mut Handle { shared: self }, number, over),
             Use::Reader => select_until(rt, alloc, &mut self.reader(), number, over),
@@ -148,24 +147,6 @@ where
     measured(rt, alloc, group, plan)
 }
 
-// Measures a group that has neither a check nor workers yet: it is updated once, and serves that, before threads select from it.
-fn measure_new<
-    S: BackendSelection + Send + Sync + 'static,
-    W: Log + Threads + Wait + Clock + Copy + Send + Sync + 'static,
->(rt: &W, alloc: Global, group: &Group<S>, plan: Plan) -> Result<Spent, Refusal>
-where
-    S::Config: Send + Sync + 'static,
-    S::Walk: Send + Sync + 'static,
-{
-    // One backend fails, in about each second pass.
-    let period = u64::from(plan.backends).saturating_mul(2).max(1);
-    group.set_health_check(rt, Flips::new(period))?;
-    let _ = group.start_workers(rt, alloc, RuntimeClock::new(*rt));
-    group.update(rt, alloc, &mut RuntimeClock::new(*rt))?;
-    let _ = awaited(rt, group);
-    measure_shared(rt, alloc, group, plan)
-}
-
 // A group of so many slots over so many backends.
 fn group_of<S: BackendSelection, W: Wait>(
     rt: &W,
@@ -173,13 +154,17 @@ fn group_of<S: BackendSelection, W: Wait>(
     slots: u32,
     backends: u32,
 ) -> Result<Group<S>, Refusal> {
-    let configs = unset(alloc, slots)?;
+    let mut configs = Vec::new(alloc);
+    for _ in 0..slots {
+        configs.push(None)?;
+    }
     let discovery = DiscoverySource::Boxed(Halves::new(backends));
     let found = Backends::new(rt, alloc, discovery)?;
     LoadBalancerGroup::from_backends_with_configs(rt, alloc, found, configs)
 }
 
-/// Measures a new group of so many slots.
+/// Measures a new group of so many slots: its workers run, it is updated once, and serves that, before threads select from it. One backend
+/// fails its check, in about each second pass.
 pub fn measure_group<
     S: BackendSelection + Send + Sync + 'static,
     W: Log + Threads + Wait + Clock + Copy + Send + Sync + 'static,
@@ -189,5 +174,10 @@ where
     S::Walk: Send + Sync + 'static,
 {
     let group: Group<S> = group_of(rt, alloc, slots, plan.backends)?;
-    measure_new(rt, alloc, &group, plan)
+    let period = u64::from(plan.backends).saturating_mul(2).max(1);
+    group.set_health_check(rt, Flips::new(period))?;
+    let _ = group.start_workers(rt, alloc, RuntimeClock::new(*rt));
+    group.update(rt, alloc, &mut RuntimeClock::new(*rt))?;
+    let _ = awaited(rt, &group);
+    measure_shared(rt, alloc, &group, plan)
 }

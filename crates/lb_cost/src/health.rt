@@ -1,14 +1,12 @@
 //! What a registry and its view cost at a size: `health BACKENDS ROUNDS`. A round updates a view by that many backends, observes each cell,
 //! asks of each backend whether it is ready, and lists the targets. `bench/health` takes the times.
-use crate::members::{Weights, members};
+use crate::members::{Weights, members, nothing};
 use crate::words::{number_at, print_line};
 use anyhow::Error;
 use lb_health_core::registry::RegistryCore;
 use lb_health_view::view::{Settings, ViewCore};
-use lb_select_base::backend::Backend;
 use lb_select_base::refusal::Refusal;
 use std::alloc::Global;
-use std::collections::BTreeSet;
 use std::io;
 
 // What a round found.
@@ -19,11 +17,6 @@ struct Found {
     targets: usize,
 }
 
-// How many backends an update brings.
-fn count_of(lent: &BTreeSet<Backend>) -> usize {
-    lent.len()
-}
-
 // Updates a view by so many backends.
 fn update(
     alloc: Global,
@@ -32,7 +25,7 @@ fn update(
     count: u32,
 ) -> Result<(), Refusal> {
     let set = members(alloc, 10, 0, count, Weights::Same(1))?;
-    view.update(alloc, registry, set, Settings::new(alloc), count_of)?;
+    view.update(alloc, registry, set, Settings::new(alloc), nothing)?;
     Ok(())
 }
 
@@ -46,24 +39,14 @@ fn observe(registry: &mut RegistryCore, count: u32) -> Result<u64, Refusal> {
     Ok(flipped)
 }
 
-// How many of these backends are ready.
-fn ready_in(registry: &RegistryCore, view: &ViewCore, backends: &BTreeSet<Backend>) -> u64 {
-    let mut ready = 0u64;
-    for backend in backends {
-        ready = ready.wrapping_add(u64::from(view.ready(registry, backend)));
-    }
-    ready
-}
-
 // Asks of each backend whether it is ready; how many are.
 fn ready(registry: &RegistryCore, view: &ViewCore) -> Result<u64, Refusal> {
     let listed = view.get_backend()?;
-    Ok(ready_in(registry, view, &*listed))
-}
-
-// How many targets are listed.
-fn targets(alloc: Global, registry: &mut RegistryCore) -> Result<usize, Refusal> {
-    Ok(registry.targets(alloc)?.len())
+    let mut ready = 0u64;
+    for backend in &*listed {
+        ready = ready.wrapping_add(u64::from(view.ready(registry, backend)));
+    }
+    Ok(ready)
 }
 
 // What is found of a new view of so many backends.
@@ -77,7 +60,7 @@ fn found_in(
     Ok(Found {
         flipped: observe(registry, count)?,
         ready: ready(registry, view)?,
-        targets: targets(alloc, registry)?,
+        targets: registry.targets(alloc)?.len(),
     })
 }
 

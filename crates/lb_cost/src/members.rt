@@ -35,21 +35,6 @@ pub fn member(alloc: Global, first: u8, number: u32, weights: Weights) -> Backen
     }
 }
 
-// Adds so many backends, from a number on.
-fn add(
-    alloc: Global,
-    set: &mut BTreeSet<Backend>,
-    first: u8,
-    from: u32,
-    count: u32,
-    weights: Weights,
-) -> Result<(), Refusal> {
-    for place in 0..count {
-        set.insert(member(alloc, first, from.wrapping_add(place), weights))?;
-    }
-    Ok(())
-}
-
 /// Returns so many backends from a number on, at addresses of this first byte.
 pub fn members(
     alloc: Global,
@@ -59,7 +44,9 @@ pub fn members(
     weights: Weights,
 ) -> Result<BTreeSet<Backend>, Refusal> {
     let mut set = BTreeSet::new(alloc);
-    add(alloc, &mut set, first, from, count, weights)?;
+    for place in 0..count {
+        set.insert(member(alloc, first, from.wrapping_add(place), weights))?;
+    }
     Ok(set)
 }
 

@@ -1,24 +1,87 @@
 //! Calls of shared types in which memory may be refused: `refused`. A call that was refused for it has to leave all that can be read as it
-//! was, and is made again. Each call has to answer what its row says, whether it was made again or not. A pass of checks that was refused
-//! for it has checked nothing; where a thread can't be started for a check, the check runs on the caller's.
+//! was, and is made again. Each call has to answer what its row says, whether it was made again or not.
 use crate::faults::Fault;
-use crate::refused_found::{FIRST, Members, OTHER};
-use crate::refused_subjects::{Alone, Balancer, Group, Made, Registry, Site, View, check_all};
+use crate::refused_passes::passes;
+use crate::refused_subjects::{Alone, Balancer, Calls, Group, Made, View};
 use anyhow::Error;
 use lb_balancer_core::timings::UpdateTimings;
+use lb_health_view::discovery::{Discovered, ServiceDiscovery};
+use lb_health_view::view::Settings;
 use lb_select::ketama::KetamaHashing;
 use lb_select::selection::{FNVHash, RoundRobin};
 use lb_select_base::backend::Backend;
+use lb_select_base::moments::MomentSource;
 use lb_select_base::refusal::Refusal;
 use log::Log;
 use std::alloc::Global;
+use std::collections::BTreeSet;
 use std::io;
 use std::net::Net;
-use std::sync::Wait;
+use std::sync::atomic::AtomicBool;
+use std::sync::atomic::Ordering::SeqCst;
+use std::sync::{Arc, Wait};
 use std::thread::Threads;
 
-/// Which cells of a registry are ready.
-pub type Cells = [bool; 8];
+/// Backends by address and weight.
+pub type Members = &'static [(&'static str, usize)];
+
+/// Two backends.
+pub const FIRST: Members = &[("1.0.0.1:80", 1), ("1.0.0.2:80", 2)];
+
+/// Their addresses.
+pub const ADDRESSES: [&str; 2] = ["1.0.0.1:80", "1.0.0.2:80"];
+
+/// Other backends, of which one is in the first list too.
+pub const OTHER: Members = &[("1.0.0.2:80", 2), ("1.0.0.3:80", 3), ("1.0.0.4:80", 4)];
+
+/// A discovery that finds `FIRST`, or `OTHER` where that is set; each backend is enabled.
+#[derive(Drop)]
+pub struct Lists {
+    pub other: Arc<AtomicBool>,
+}
+
+impl ServiceDiscovery for Lists {
+    fn discover(&self, alloc: Global) -> Result<Discovered, Refusal> {
+        let members = if self.other.load(SeqCst) {
+            OTHER
+        } else {
+            FIRST
+        };
+        let set = set_of(alloc, members)?;
+        let mut settings = Settings::new(alloc);
+        for backend in &set {
+            settings.insert((backend.addr.clone()?, backend.weight), true)?;
+        }
+        Ok((set, settings))
+    }
+}
+
+/// Returns the backends of a list.
+pub fn set_of(alloc: Global, members: Members) -> Result<BTreeSet<Backend>, Refusal> {
+    let mut set = BTreeSet::new(alloc);
+    for (address, weight) in members {
+        set.insert(Backend::new_with_weight(alloc, address, *weight)?)?;
+    }
+    Ok(set)
+}
+
+/// A clock that goes on by five at each reading.
+#[derive(Drop)]
+pub struct Ticks {
+    pub next: u128,
+}
+
+impl MomentSource for Ticks {
+    ghost use Rattle.std.specs.Prelude.{◌≡◌};
+
+    ghost reads = { λ s m _. m ≡ s.next };
+
+    fn now(&mut self) -> u128 {
+        let moment = self.next;
+        self.next = moment.saturating_add(5);
+        moment
+    }
+}
 
 /// A call, of those that take memory.
 #[derive(Clone, Copy)]
@@ -38,113 +101,65 @@ pub enum Call {
     List,
     /// Disables the last backend of the first list. Answers how many of that list are ready then.
     Disable,
-    /// Makes a pass of checks. Answers how many verdicts have flipped a cell so far.
-    Check(Pass),
 }
 
-/// A pass of checks over three targets: whether they run side by side, and whether those of odd weight fail; then which cells are ready
-/// after it, and how often the check was asked so far.
-#[derive(Clone, Copy)]
-pub struct Pass {
-    pub is_parallel: bool,
-    pub odd_fail: bool,
-    pub ready: Cells,
-    pub asked: u64,
-}
-
-/// What can be read: generations, or of a registry how many verdicts have flipped a cell and how often a check was asked; which cells are
-/// ready; how many targets there are; the weight of what is selected; and how long the last update took.
+/// What can be read: generations, or how many targets there are; the weight of what is selected; and how long the last update took.
 #[derive(Clone, Copy, PartialEq, Eq)]
 pub struct Seen {
     pub newest: u64,
     pub served: u64,
-    pub cells: Cells,
     pub targets: usize,
     pub selected: Option<usize>,
     pub timing: Option<UpdateTimings>,
 }
 
-/// What is asked of a backend.
-#[derive(Clone, Copy)]
-pub enum Question {
-    /// Whether it is ready.
-    IsReady,
-    /// That it is disabled.
-    Disable,
-    /// That its load is set.
-    Load,
-}
-
 /// What the calls are made of.
 pub trait Subject {
-    /// Reads what can be read.
-    fn seen<W: Wait + Drop>(&self, site: &Site<W>) -> Result<Seen, Refusal>;
+    /// Reads what can be read; once more, where that is refused.
+    fn seen(&self) -> Option<Seen>;
 
-    /// Asks something of a backend. Returns whether it is ready, where that was asked.
-    fn ask<W: Wait + Drop>(
-        &self,
-        site: &Site<W>,
-        backend: &Backend,
-        question: Question,
-    ) -> Result<bool, Refusal>;
+    /// Returns whether a backend is ready.
+    fn is_ready(&self, backend: &Backend) -> bool;
 
-    /// Makes a call, of those without flags, loads and checks.
-    fn make<W: Wait + Drop>(&self, site: &Site<W>, call: Call) -> Result<u64, Refusal>;
+    /// Disables a backend.
+    fn disable(&self, backend: &Backend);
 
-    /// Returns the registry whose targets passes check, where there are such.
-    fn registry(&self) -> Option<&Registry>;
+    /// Makes a call, of those without flags.
+    fn make(&self, call: Call) -> Result<u64, Refusal>;
 }
 
-// How many backends of the first list are ready.
-fn count_in<W: Wait + Drop, T: Subject>(site: &Site<W>, subject: &T) -> u64 {
+// How many of these backends are ready.
+fn count_in<T: Subject>(subject: &T, set: &BTreeSet<Backend>) -> u64 {
     let mut count: u64 = 0;
-    for backend in &site.first {
-        let is_ready = subject.ask(site, backend, Question::IsReady) == Ok(true);
-        count = count.saturating_add(u64::from(is_ready));
+    for backend in set {
+        if subject.is_ready(backend) {
+            count = count.saturating_add(1);
+        }
     }
     count
 }
 
-// Sets the load of each backend of the first list.
-fn load_all<W: Wait + Drop, T: Subject>(site: &Site<W>, subject: &T) -> Result<u64, Refusal> {
-    for backend in &site.first {
-        subject.ask(site, backend, Question::Load)?;
-    }
-    Ok(0)
-}
-
-// Disables the last backend of the first list. Returns how many of that list are ready then.
-fn disable_last<W: Wait + Drop, T: Subject>(site: &Site<W>, subject: &T) -> Result<u64, Refusal> {
-    if let Some(backend) = site.first.last() {
-        subject.ask(site, backend, Question::Disable)?;
-    }
-    Ok(count_in(site, subject))
-}
-
 // Makes any call.
-fn answer<W: Log + Threads + Wait + Copy + Sync + Drop, T: Subject>(
-    site: &Site<W>,
-    subject: &T,
-    call: Call,
-) -> Result<u64, Refusal> {
+fn answer<T: Subject>(alloc: Global, subject: &T, call: Call) -> Result<u64, Refusal> {
     match call {
-        Call::Disable => disable_last(site, subject),
-        Call::Load => load_all(site, subject),
-        Call::Check(pass) => match subject.registry() {
-            Some(registry) => check_all(site, registry, pass),
-            None => Err(Refusal::NoSuch),
-        },
-        _ => subject.make(site, call),
+        Call::Disable => {
+            let set = set_of(alloc, FIRST)?;
+            if let Some(backend) = set.last() {
+                subject.disable(backend);
+            }
+            Ok(count_in(subject, &set))
+        }
+        _ => subject.make(call),
     }
 }
 
-// What can be read of a subject; read once more, where that is refused.
-fn look_at<W: Wait + Drop, T: Subject>(site: &Site<W>, subject: &T) -> Option<(Seen, u64)> {
-    let seen = match subject.seen(site) {
-        Ok(seen) => seen,
-        Err(_) => subject.seen(site).ok()?,
+// What can be read of a subject, and how many backends of the first list are ready; counted once more, where that is refused.
+fn look_at<T: Subject>(alloc: Global, subject: &T) -> Option<(Seen, u64)> {
+    let set = match set_of(alloc, FIRST) {
+        Ok(set) => set,
+        Err(_) => set_of(alloc, FIRST).ok()?,
     };
-    Some((seen, count_in(site, subject)))
+    Some((subject.seen()?, count_in(subject, &set)))
 }
 
 /// Calls with what they answer.
@@ -197,51 +212,6 @@ const GROUP: &[Row] = &[
     (Call::Turn, 3),
 ];
 
-// The cells of the weights 2, 3 and 4 where those of even weight fail, and where those of odd weight do.
-const ODD: Cells = [false, true, false, false, false, false, false, false];
-
-const EVEN: Cells = [true, false, true, false, false, false, false, false];
-
-/// The calls over targets of the weights 2, 3 and 4.
-const PASSES: &[Row] = &[
-    (
-        Call::Check(Pass {
-            is_parallel: false,
-            odd_fail: false,
-            ready: ODD,
-            asked: 3,
-        }),
-        2,
-    ),
-    (
-        Call::Check(Pass {
-            is_parallel: true,
-            odd_fail: false,
-            ready: ODD,
-            asked: 6,
-        }),
-        2,
-    ),
-    (
-        Call::Check(Pass {
-            is_parallel: true,
-            odd_fail: true,
-            ready: EVEN,
-            asked: 9,
-        }),
-        5,
-    ),
-    (
-        Call::Check(Pass {
-            is_parallel: false,
-            odd_fail: false,
-            ready: ODD,
-            asked: 12,
-        }),
-        8,
-    ),
-];
-
 /// What came of a subject's calls: whether all agreed, and which one was made again, by its number from 1; 0 for the one that makes the
 /// subject.
 #[derive(Clone, Copy)]
@@ -251,138 +221,117 @@ pub struct Course {
 }
 
 impl Course {
-    // Nothing was made again.
-    fn new(agrees: bool) -> Course {
+    /// Returns that nothing was made again, where it agrees.
+    pub fn new(agrees: bool) -> Course {
         Course {
             agrees,
             again: None,
         }
     }
 
-    // Notes that memory was refused for a call, which is made again, and whether that left what can be read as it was.
-    fn refused(&mut self, number: usize, is_same: bool) {
+    /// Returns that the maker was called again, where what is left agrees.
+    pub fn made_again(agrees: bool) -> Course {
+        Course {
+            agrees,
+            again: Some(0),
+        }
+    }
+
+    /// Notes that memory was refused for a call, which is made again, and whether that left what can be read as it was.
+    pub fn refused(&mut self, number: usize, is_same: bool) {
         self.again = Some(number);
         self.agrees &= is_same;
     }
 
+    /// Notes whether a call came to what its row says.
+    pub fn done(&mut self, agrees: bool) {
+        self.agrees &= agrees;
+    }
+
     // Makes a call, again where memory was refused for it.
-    fn call<W: Log + Threads + Wait + Copy + Sync + Drop, T: Subject>(
-        &mut self,
-        site: &Site<W>,
-        subject: &T,
-        number: usize,
-        (call, wanted): Row,
-    ) {
-        let before = look_at(site, subject);
-        let mut told = answer(site, subject, call);
+    fn call<T: Subject>(&mut self, alloc: Global, subject: &T, number: usize, (call, wanted): Row) {
+        let before = look_at(alloc, subject);
+        let mut told = answer(alloc, subject, call);
         if told == Err(Refusal::OutOfMemory) {
-            self.refused(number, look_at(site, subject) == before);
-            told = answer(site, subject, call);
+            self.refused(number, look_at(alloc, subject) == before);
+            told = answer(alloc, subject, call);
         }
-        self.agrees &= told == Ok(wanted) && look_at(site, subject).is_some();
+        self.done(told == Ok(wanted) && look_at(alloc, subject).is_some());
     }
 
     // Makes the calls of a table.
-    fn play<W: Log + Threads + Wait + Copy + Sync + Drop, T: Subject>(
-        &mut self,
-        site: &Site<W>,
-        subject: &T,
-        rows: &[Row],
-    ) {
+    fn play<T: Subject>(mut self, alloc: Global, subject: Option<&T>, rows: &[Row]) -> Course {
+        let Some(subject) = subject else {
+            return Course::new(false);
+        };
         let mut number: usize = 0;
         for row in rows {
             number = number.saturating_add(1);
-            self.call(site, subject, number, *row);
+            self.call(alloc, subject, number, *row);
         }
+        self
     }
 
-    // Prints the line of a subject.
-    fn report<W: Print>(self, rt: &W, name: &str) -> io::Result<()> {
+    // Prints the line of a subject. Returns whether it agrees.
+    fn report<W: Print>(self, rt: &W, name: &str) -> io::Result<bool> {
         let verdict = if self.agrees {
             "as it should be"
         } else {
             "differs"
         };
         match self.again {
-            None => println!(rt; "{name}, a step at a time: {verdict}"),
-            Some(number) => println!(rt; "{name}, call {number} given again: {verdict}"),
+            None => println!(rt; "{name}, a step at a time: {verdict}")?,
+            Some(number) => println!(rt; "{name}, call {number} given again: {verdict}")?,
         }
+        Ok(self.agrees)
     }
 }
 
-// Makes a subject, again where that was refused: then the registry has no targets.
-fn made<W: Net + Wait + Drop, T: Made>(site: &Site<W>, course: &mut Course) -> Result<T, Refusal> {
-    match T::make(site) {
-        Ok(subject) => Ok(subject),
+// Makes the calls of a subject, and reports what came of them.
+fn agree<W: Net + Wait + Print + Copy + Drop, T: Made + Drop>(
+    rt: &W,
+    alloc: Global,
+    name: &str,
+    rows: &[Row],
+) -> io::Result<bool>
+where
+    Calls<W, T>: Subject,
+{
+    let (made, course): (Option<Calls<W, T>>, Course) = Calls::new(*rt, alloc);
+    course.play(alloc, made.as_ref(), rows).report(rt, name)
+}
+
+// Makes passes over a registry, from the beginning where memory was refused for the registry, and reports what came of them.
+fn passes_agree<W: Log + Threads + Wait + Print + Copy + Sync + Drop>(
+    rt: &W,
+    alloc: Global,
+) -> io::Result<bool> {
+    let course = match passes(rt, alloc) {
+        Ok(course) => course,
         Err(_) => {
-            course.refused(0, site.has_no_targets());
-            T::make(site)
+            let course = passes(rt, alloc).unwrap_or(Course::new(false));
+            Course {
+                again: Some(0),
+                ..course
+            }
         }
-    }
-}
-
-// Makes a subject of a site, and its calls.
-fn course_at<W: Log + Net + Threads + Wait + Copy + Sync + Drop, T: Made + Subject + Drop>(
-    site: &Site<W>,
-    rows: &[Row],
-) -> Course {
-    let mut course = Course::new(true);
-    let made: Result<T, Refusal> = made(site, &mut course);
-    match &made {
-        Ok(subject) => course.play(site, subject, rows),
-        Err(_) => course.agrees = false,
-    }
-    course
-}
-
-// The same, on a site of its own, which is made again where that was refused.
-fn course_of<W: Log + Net + Threads + Wait + Copy + Sync + Drop, T: Made + Subject + Drop>(
-    rt: &W,
-    alloc: Global,
-    rows: &[Row],
-) -> Course {
-    let made = match Site::new(*rt, alloc) {
-        Ok(site) => Ok(site),
-        Err(_) => Site::new(*rt, alloc),
     };
-    match &made {
-        Ok(site) => course_at::<W, T>(site, rows),
-        Err(_) => Course::new(false),
-    }
+    course.report(rt, "the passes of a shared registry")
 }
 
-// The courses of all subjects, with their names.
-fn courses<W: Log + Net + Threads + Wait + Copy + Sync + Drop>(
+// Reports the calls of each subject, each over what its maker makes, and passes of checks. Returns whether all agree.
+fn all_agree<W: Log + Net + Threads + Wait + Print + Copy + Sync + Drop>(
     rt: &W,
     alloc: Global,
-) -> [(&'static str, Course); 8] {
-    let registry = course_of::<W, Alone<false, false>>(rt, alloc, REGISTRY);
-    let by_address = course_of::<W, Alone<true, false>>(rt, alloc, REGISTRY);
-    let view = course_of::<W, View>(rt, alloc, VIEW);
-    let balancer = course_of::<W, Balancer<FNVHash>>(rt, alloc, BALANCER);
-    let configured = course_of::<W, Balancer<KetamaHashing>>(rt, alloc, BALANCER);
-    let of_texts = course_of::<W, Balancer<RoundRobin>>(rt, alloc, TEXTS);
-    let group = course_of::<W, Group>(rt, alloc, GROUP);
-    let checked = course_of::<W, Alone<false, true>>(rt, alloc, PASSES);
-    [
-        ("the calls of a shared registry", registry),
-        ("those of a registry by address", by_address),
-        ("the calls of a shared view", view),
-        ("the calls of a shared balancer", balancer),
-        ("those of a configured one", configured),
-        ("those of one made of texts", of_texts),
-        ("the calls of a shared group", group),
-        ("the passes of a shared registry", checked),
-    ]
-}
-
-// Reports the courses. Returns whether all agree.
-fn all_agree<W: Print>(rt: &W, courses: &[(&'static str, Course); 8]) -> io::Result<bool> {
-    let mut all = true;
-    for (name, course) in courses {
-        course.report(rt, *name)?;
-        all &= course.agrees;
-    }
+) -> io::Result<bool> {
+    let mut all = agree::<W, Alone<false>>(rt, alloc, "the calls of a shared registry", REGISTRY)?;
+    all &= agree::<W, Alone<true>>(rt, alloc, "those of a registry by address", REGISTRY)?;
+    all &= agree::<W, View>(rt, alloc, "the calls of a shared view", VIEW)?;
+    all &= agree::<W, Balancer<FNVHash>>(rt, alloc, "the calls of a shared balancer", BALANCER)?;
+    all &= agree::<W, Balancer<KetamaHashing>>(rt, alloc, "those of a configured one", BALANCER)?;
+    all &= agree::<W, Balancer<RoundRobin>>(rt, alloc, "those of one made of texts", TEXTS)?;
+    all &= agree::<W, Group>(rt, alloc, "the calls of a shared group", GROUP)?;
+    all &= passes_agree(rt, alloc)?;
     Ok(all)
 }
 
@@ -395,7 +344,7 @@ pub fn run<W: Log + Net + Threads + Wait + Print + Copy + Sync + Drop>(
     rt: &W,
     alloc: Global,
 ) -> Result<(), Error> {
-    if all_agree(rt, &courses(rt, alloc))? {
+    if all_agree(rt, alloc)? {
         Ok(())
     } else {
         Err(Fault::Differs)?

@@ -1,7 +1,7 @@
 //! Selections by the library alone: `selects`, what one costs without a script's text. A line of standard input is a run,
 //! `KIND BACKENDS WEIGHT SELECTIONS`; its answer is the sum of the addresses that were chosen, so that runs can be compared.
 use crate::faults::Fault;
-use crate::members::{Weights, any, members};
+use crate::members::{Weights, any, member};
 use anyhow::Error;
 use lb_select::ketama::KetamaHashing;
 use lb_select::least::LeastConnections;
@@ -10,7 +10,7 @@ use lb_select_base::backend::{Backend, InetAddr, SocketAddr};
 use lb_select_base::refusal::Refusal;
 use lb_select_base::select::select;
 use lb_select_base::walk::BackendSelection;
-use lb_select_base::words::{CoreWords, WordSource};
+use lb_select_base::words::CoreWords;
 use rand_pcg::Pcg64;
 use std::alloc::Global;
 use std::collections::BTreeSet;
@@ -19,33 +19,14 @@ use std::sync::Arc;
 // As many candidates as the scripts of bench/ look at; the first is accepted always.
 const LIMIT: usize = 8;
 
-// What selects.
-#[derive(Clone, Copy)]
-enum Kind {
-    Fnv,
-    RoundRobin,
-    Ketama,
-    Least,
-}
-
 // What a line asks for.
 #[derive(Clone, Copy)]
-struct Line {
-    kind: Kind,
+struct Line<'a> {
+    kind: &'a str,
     backends: u32,
-    weights: Weights,
+    // of each backend; none where they are mixed
+    weight: Option<usize>,
     selections: u64,
-}
-
-// The kind that a word names.
-fn kind_of(word: &str) -> Option<Kind> {
-    match word {
-        "fnv" => Some(Kind::Fnv),
-        "rr" => Some(Kind::RoundRobin),
-        "ketama" => Some(Kind::Ketama),
-        "least" => Some(Kind::Least),
-        _ => None,
-    }
 }
 
 // The number that a backend was made of.
@@ -56,110 +37,96 @@ fn number_of(backend: &Backend) -> u64 {
     }
 }
 
-// The number of the backend that was found, or 0.
-fn number_found(found: Result<Option<Backend>, Refusal>) -> Result<u64, Refusal> {
-    match &found {
-        Ok(Some(backend)) => Ok(number_of(backend)),
-        Ok(None) => Ok(0),
-        Err(refusal) => Err(*refusal),
-    }
-}
-
-// Selects under the key of each of so many numbers; the sum of the numbers of the backends.
-fn sum_of<S: BackendSelection, W: WordSource>(
+// The sum of the numbers of the backends that are selected under the keys of this many numbers.
+fn selected<S: BackendSelection>(
     alloc: Global,
-    selector: &Arc<S>,
-    words: &mut W,
+    backends: &BTreeSet<Backend>,
+    words: &mut CoreWords<Pcg64>,
     selections: u64,
 ) -> Result<u64, Refusal> {
+    let selector = Arc::new(alloc, S::build(alloc, backends)?)?;
     let mut sum = 0u64;
     for number in 0..selections {
-        let found = select(alloc, selector, &number.to_le_bytes(), words, LIMIT, &any);
-        sum = sum.wrapping_add(number_found(found)?);
+        let key = number.to_le_bytes();
+        let found = select(alloc, &selector, &key, words, LIMIT, &any)?;
+        if let Some(backend) = found {
+            sum = sum.wrapping_add(number_of(&backend));
+        }
     }
     Ok(sum)
 }
 
-// The same, with a selector over these backends.
-fn selected<S: BackendSelection, W: WordSource>(
-    alloc: Global,
-    backends: &BTreeSet<Backend>,
-    words: &mut W,
-    selections: u64,
-) -> Result<u64, Refusal> {
-    let selector = Arc::new(alloc, S::build(alloc, backends)?)?;
-    sum_of(alloc, &selector, words, selections)
-}
-
-// Sets a load of each backend.
-fn load_all(
-    alloc: Global,
-    backends: &BTreeSet<Backend>,
-    words: &mut CoreWords<Pcg64>,
-) -> Result<(), Refusal> {
-    for backend in backends {
-        words.set_load(
-            alloc,
-            backend,
-            number_of(backend).wrapping_add(3).wrapping_mul(7919) % 1000,
-        )?;
+impl Line<'_> {
+    // The run of a line's words. A weight that is no number means mixed ones.
+    fn of(line: &str) -> Option<Line<'_>> {
+        let mut words = line.split(' ');
+        let kind = words.next()?;
+        let backends = words.next()?.parse::<u32>().ok()?;
+        let weight = words.next()?.parse::<usize>().ok();
+        let selections = words.next()?.parse::<u64>().ok()?;
+        Some(Line {
+            kind,
+            backends,
+            weight,
+            selections,
+        })
     }
-    Ok(())
-}
 
-// What a line asks for. A weight that is no number means mixed ones, from 1 to 10.
-fn line_of(line: &str) -> Option<Line> {
-    let mut words = line.split(' ');
-    let kind = words.next().unwrap_or("");
-    let backends = words.next().unwrap_or("");
-    let weight = words.next().unwrap_or("");
-    let selections = words.next().unwrap_or("");
-    Some(Line {
-        kind: kind_of(kind)?,
-        backends: backends.parse().ok()?,
-        weights: match weight.parse::<usize>() {
-            Ok(weight) => Weights::Same(weight),
-            Err(_) => Weights::UpTo(10),
-        },
-        selections: selections.parse().ok()?,
-    })
-}
+    // Adds its backends, whose loads are set where a kind goes by them. Mixed weights are from 1 to 10.
+    fn fill(
+        self,
+        alloc: Global,
+        backends: &mut BTreeSet<Backend>,
+        words: &mut CoreWords<Pcg64>,
+    ) -> Result<(), Refusal> {
+        for number in 0..self.backends {
+            let weight = self.weight.unwrap_or(number as usize % 10 + 1);
+            let backend = member(alloc, 0, number, Weights::Same(weight));
+            if self.kind == "least" {
+                words.set_load(alloc, &backend, (u64::from(number) + 3) * 7919 % 1000)?;
+            }
+            backends.insert(backend)?;
+        }
+        Ok(())
+    }
 
-impl Line {
-    // Its answer from these backends, whose loads are set where the kind goes by them.
+    // Its answer from these backends; none where there is no such kind.
     fn sum(
         self,
         alloc: Global,
         backends: &BTreeSet<Backend>,
         words: &mut CoreWords<Pcg64>,
-    ) -> Result<u64, Refusal> {
+    ) -> Result<Option<u64>, Refusal> {
         let selections = self.selections;
-        match self.kind {
-            Kind::Fnv => selected::<FNVHash, _>(alloc, backends, words, selections),
-            Kind::RoundRobin => selected::<RoundRobin, _>(alloc, backends, words, selections),
-            Kind::Ketama => selected::<KetamaHashing, _>(alloc, backends, words, selections),
-            Kind::Least => {
-                load_all(alloc, backends, words)?;
-                selected::<LeastConnections, _>(alloc, backends, words, selections)
-            }
-        }
+        let sum = match self.kind {
+            "fnv" => selected::<FNVHash>(alloc, backends, words, selections),
+            "rr" => selected::<RoundRobin>(alloc, backends, words, selections),
+            "ketama" => selected::<KetamaHashing>(alloc, backends, words, selections),
+            "least" => selected::<LeastConnections>(alloc, backends, words, selections),
+            _ => return Ok(None),
+        };
+        Ok(Some(sum?))
     }
 
     // Its answer.
-    fn answer(self, alloc: Global) -> Result<u64, Refusal> {
-        let backends = members(alloc, 0, 0, self.backends, self.weights)?;
+    fn answer(self, alloc: Global) -> Result<Option<u64>, Refusal> {
+        let mut backends = BTreeSet::new(alloc);
         let mut words = CoreWords::new(Pcg64::new(1, 2));
+        self.fill(alloc, &mut backends, &mut words)?;
         self.sum(alloc, &backends, &mut words)
     }
 }
 
 // Prints a line with its answer.
 fn answer<R: Print>(rt: &R, alloc: Global, line: &str) -> Result<(), Error> {
-    let Some(asked) = line_of(line) else {
-        return Err(Fault::UnknownRun)?;
+    let answered = match Line::of(line) {
+        Some(run) => run.answer(alloc)?,
+        None => None,
     };
-    let sum = asked.answer(alloc)?;
-    Ok(println!(rt; "{line} {sum}")?)
+    match answered {
+        Some(sum) => Ok(println!(rt; "{line} {sum}")?),
+        None => Err(Fault::UnknownRun)?,
+    }
 }
 
 /// Answers the lines of standard input.

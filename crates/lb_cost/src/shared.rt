@@ -84,24 +84,13 @@ impl<
         used: Use,
         number: u64,
         over: &AtomicBool,
-    ) -> Result<u64, Refusal> {
-        if used == Use::Reader {
+    ) -> Result<Spent, Refusal> {
+        if matches!(used, Use::Reader) {
             let mut reader = self.reader(rt, alloc)?;
             return select_until(rt, alloc, &mut reader, number, over);
         }
         select_until(rt, alloc, &mut Handle { shared: self }, number, over)
     }
-}
-
-// A balancer over so many backends.
-fn balancer_of<S: BackendSelection, W: Wait>(
-    rt: &W,
-    alloc: Global,
-    backends: u32,
-) -> Result<Balancer<S>, Refusal> {
-    let discovery = DiscoverySource::Boxed(Halves::new(backends));
-    let found = Backends::new(rt, alloc, discovery)?;
-    LoadBalancer::from_backends(rt, alloc, found)
 }
 
 // Measures a new balancer, which was updated once.
@@ -113,7 +102,9 @@ where
     S::Config: Send + Sync,
     S::Walk: Send + Sync,
 {
-    let balancer: Balancer<S> = balancer_of(rt, alloc, plan.backends)?;
+    let discovery = DiscoverySource::Boxed(Halves::new(plan.backends));
+    let found = Backends::new(rt, alloc, discovery)?;
+    let balancer: Balancer<S> = LoadBalancer::from_backends(rt, alloc, found)?;
     balancer.update(rt, alloc, &mut RuntimeClock::new(*rt))?;
     measured(rt, alloc, &balancer, plan)
 }

@@ -5,18 +5,15 @@
 //! goes on.
 use crate::faults::Fault;
 use crate::groups::awaited;
-use crate::passes::pass;
+use crate::passes::{Flips, pass};
 use crate::process::{Process, resident};
-use crate::soak_groups::{Handle, Side, Sides, add_groups, builds_and_flips, leave, side_of, stir};
-use crate::soak_threads::{Tally, Users, joined, start_user};
+use crate::soak_groups::{Groups, PERIOD, Site, starts, stir};
+use crate::soak_threads::{Tally, joined, start_user};
 use crate::words::number_at;
 use anyhow::Error;
-use lb_balancer_group::group::LoadBalancerGroup;
-use lb_health_core::health_check::HealthCheck;
-use lb_health_core::keys::KeyRule;
-use lb_health_view::discovery::ServiceDiscovery;
 use lb_select_base::refusal::Refusal;
-use lb_select_base::walk::BackendSelection;
+use lb_threads_core::gate::SelectorRebuildGate;
+use lb_threads_core::registry::HealthRegistry;
 use log::Log;
 use std::alloc::Global;
 use std::rt::Files;
@@ -44,173 +41,147 @@ const IDLE_TICKS: u64 = 10;
 struct Done {
     rounds: u64,
     turns: u64,
+    builds: u64,
     after_a_minute: u64,
 }
 
-impl Done {
-    // Notes a round of so many turns.
-    fn note(&mut self, turns: u64) {
-        self.rounds = self.rounds.saturating_add(1);
-        self.turns = self.turns.saturating_add(turns);
+// Starts the workers of all groups.
+fn all_start<W: Log + Threads + Wait + Clock + Copy + Send + Sync + Drop + 'static>(
+    rt: &W,
+    alloc: Global,
+    groups: &Groups<W>,
+) -> Result<(), Fault> {
+    let mut are_started = starts(rt, alloc, &*groups.random);
+    for group in &groups.chosen {
+        are_started &= starts(rt, alloc, &**group);
+    }
+    if are_started {
+        Ok(())
+    } else {
+        Err(Fault::Unstarted)
     }
 }
 
-// Updates one of the groups, in turn, and now and then checks the targets of a registry, in turn too: one by one, or all at once.
+// Updates one of the groups, in turn, and now and then checks the targets of a registry, in turn too.
 fn happens<W: Log + Threads + Wait + Clock + Copy + Send + Sync + Drop>(
     rt: &W,
     alloc: Global,
-    sides: &Sides<W>,
-    groups: &[Arc<Handle<W>>],
+    site: &Site,
+    groups: &Groups<W>,
     turn: u64,
 ) -> Result<(), Refusal> {
-    if let Some(group) = groups.get((turn % 4) as usize) {
-        stir(rt, alloc, &**group, turn)?;
+    let place = (turn % 4) as usize;
+    match groups.chosen.get(place) {
+        Some(group) => stir(rt, alloc, &**group, turn)?,
+        None => stir(rt, alloc, &*groups.random, turn)?,
     }
-    if turn % 4 != 3 {
-        return Ok(());
+    let [registry, other] = &site.registries;
+    match turn % 16 {
+        3 => pass(rt, alloc, registry, false),
+        7 => pass(rt, alloc, other, false),
+        11 => pass(rt, alloc, registry, true),
+        15 => pass(rt, alloc, other, true),
+        _ => Ok(()),
     }
-    let side = side_of(sides, turn % 8 == 7);
-    pass(rt, alloc, &*side.registry, turn % 16 > 8)
-}
-
-// Cancels one group on each gate.
-fn cancel_two<
-    S: BackendSelection,
-    D: ServiceDiscovery + Drop,
-    R: KeyRule + Drop,
-    C: HealthCheck + Drop,
-    W: Wait + Clock,
->(rt: &W, groups: &[Arc<LoadBalancerGroup<S, D, R, C>>]) {
-    if let [_, second, _, fourth] = groups {
-        second.cancel(rt);
-        fourth.cancel(rt);
-    }
-    thread::sleep(rt, Duration::from_millis(10 * PAUSE));
 }
 
 // All updates of a round. Two groups are cancelled then, or none.
 fn stirred<W: Log + Threads + Wait + Clock + Copy + Send + Sync + Drop>(
     rt: &W,
     alloc: Global,
-    sides: &Sides<W>,
-    groups: &[Arc<Handle<W>>],
+    site: &Site,
+    groups: &Groups<W>,
     is_cancelled: bool,
 ) -> Result<(), Refusal> {
     for turn in 0..UPDATES {
-        happens(rt, alloc, sides, groups, turn)?;
+        happens(rt, alloc, site, groups, turn)?;
         thread::sleep(rt, Duration::from_millis(PAUSE));
     }
     if is_cancelled {
-        cancel_two(rt, groups);
+        groups.cancel_two(rt);
+        thread::sleep(rt, Duration::from_millis(10 * PAUSE));
     }
     Ok(())
-}
-
-// Starts a thread for each group that uses it, and lets all of a round happen.
-fn shared_out<W: Log + Threads + Wait + Clock + Copy + Send + Sync + Drop + 'static>(
-    rt: &W,
-    alloc: Global,
-    sides: &Sides<W>,
-    groups: &[Arc<Handle<W>>],
-    is_cancelled: bool,
-    tally: &Arc<Tally>,
-    users: &mut Users,
-) -> Result<(), Refusal> {
-    for group in groups {
-        users.push(start_user(rt, alloc, group, tally))?;
-    }
-    stirred(rt, alloc, sides, groups, is_cancelled)
 }
 
 // Threads use the groups while all of a round happens. Returns how many turns they took.
 fn used<W: Log + Threads + Wait + Clock + Copy + Send + Sync + Drop + 'static>(
     rt: &W,
     alloc: Global,
-    sides: &Sides<W>,
-    groups: &[Arc<Handle<W>>],
+    site: &Site,
+    groups: &Groups<W>,
     is_cancelled: bool,
 ) -> Result<u64, Error> {
+    all_start(rt, alloc, groups)?;
     let tally = Arc::new(alloc, Tally::new())?;
-    let mut users = Vec::new(alloc);
-    let told = shared_out(rt, alloc, sides, groups, is_cancelled, &tally, &mut users);
+    let [first, second, third] = &groups.chosen;
+    let users = [
+        start_user(rt, alloc, first, &tally),
+        start_user(rt, alloc, second, &tally),
+        start_user(rt, alloc, third, &tally),
+        start_user(rt, alloc, &groups.random, &tally),
+    ];
+    let stirred = stirred(rt, alloc, site, groups, is_cancelled);
     tally.over.store(true, SeqCst);
-    let are_right = joined(rt, users);
-    let turns = tally.turns.load(SeqCst);
-    drop(tally);
-    told?;
+    let mut are_right = true;
+    for user in users {
+        are_right &= joined(rt, user);
+    }
+    stirred?;
     if !are_right {
         Err(Fault::Wrong)?;
     }
-    Ok(turns)
+    Ok(tally.turns.load(SeqCst))
 }
 
 // Drops the groups, and looks at what they leave.
 fn left<W: Wait + Clock + Copy + Drop>(
     rt: &W,
     alloc: Global,
-    sides: &Sides<W>,
-    groups: Vec<Arc<Handle<W>>>,
-) -> Result<(), Fault> {
-    let left = leave(rt, alloc, sides, groups);
-    if left == [true; 5] {
-        Ok(())
-    } else {
-        Err(Fault::Left(left))
+    site: &Site,
+    groups: Groups<W>,
+) -> Result<(), Error> {
+    let left = groups.leave(rt, alloc, site)?;
+    if left != [true; 5] {
+        Err(Fault::Left(left))?;
     }
+    Ok(())
 }
 
 // A round on new groups.
 fn round<W: Log + Threads + Wait + Clock + Copy + Send + Sync + Drop + 'static>(
     rt: &W,
     alloc: Global,
-    sides: &Sides<W>,
+    site: &Site,
     done: &mut Done,
 ) -> Result<(), Error> {
-    let mut groups = Vec::new(alloc);
-    if !add_groups(rt, alloc, sides, &mut groups)? {
-        Err(Fault::Unstarted)?;
-    }
-    let is_cancelled = done.rounds % 2 == 0;
-    done.note(used(rt, alloc, sides, groups.as_slice(), is_cancelled)?);
-    Ok(left(rt, alloc, sides, groups)?)
-}
-
-// Updates groups. Returns whether they come to serve that.
-fn are_served<
-    S: BackendSelection,
-    D: ServiceDiscovery + Drop,
-    R: KeyRule + Drop,
-    C: HealthCheck + Drop,
-    W: Wait + Clock + Copy,
->(rt: &W, alloc: Global, groups: &[Arc<LoadBalancerGroup<S, D, R, C>>]) -> Result<bool, Refusal> {
-    let mut are_served = true;
-    for group in groups {
-        stir(rt, alloc, &**group, 0)?;
-        are_served &= awaited(rt, &**group);
-    }
-    Ok(are_served)
-}
-
-// How much processor time is taken in ten seconds, in hundredths of a second.
-fn taken<W: Clock + Files + AllocGlobal>(rt: &W) -> io::Result<u64> {
-    let before = Process::read(rt)?.ticks;
-    thread::sleep(rt, Duration::from_secs(IDLE));
-    Ok(Process::read(rt)?.ticks.saturating_sub(before))
+    let groups = Groups::new(*rt, alloc, site)?;
+    let turns = used(rt, alloc, site, &groups, done.rounds % 2 == 0)?;
+    done.rounds = done.rounds.saturating_add(1);
+    done.turns = done.turns.saturating_add(turns);
+    done.builds = done.builds.saturating_add(groups.builds());
+    left(rt, alloc, site, groups)
 }
 
 // Groups that serve what they were updated to, and in which nothing happens for ten seconds.
 fn idle<
     W: Log + Threads + Wait + Clock + Files + AllocGlobal + Copy + Send + Sync + Drop + 'static,
->(rt: &W, alloc: Global, sides: &Sides<W>) -> Result<(), Error> {
-    let mut groups = Vec::new(alloc);
-    if !add_groups(rt, alloc, sides, &mut groups)? {
-        Err(Fault::Unstarted)?;
+>(rt: &W, alloc: Global, site: &Site) -> Result<(), Error> {
+    let groups = Groups::new(*rt, alloc, site)?;
+    all_start(rt, alloc, &groups)?;
+    let mut are_served = true;
+    for group in &groups.chosen {
+        stir(rt, alloc, &**group, 0)?;
+        are_served &= awaited(rt, &**group);
     }
-    if !are_served(rt, alloc, groups.as_slice())? {
+    stir(rt, alloc, &*groups.random, 0)?;
+    if !are_served || !awaited(rt, &*groups.random) {
         Err(Fault::Wrong)?;
     }
-    let taken = taken(rt)?;
-    left(rt, alloc, sides, groups)?;
+    let before = Process::read(rt)?.ticks;
+    thread::sleep(rt, Duration::from_secs(IDLE));
+    let taken = Process::read(rt)?.ticks.saturating_sub(before);
+    left(rt, alloc, site, groups)?;
     if taken >= IDLE_TICKS {
         Err(Fault::Busy(taken))?;
     }
@@ -228,10 +199,10 @@ fn print_done<W: Print>(
     rt: &W,
     seconds: u64,
     done: &Done,
-    (builds, flips): (u64, u64),
+    flips: u64,
     resident: u64,
 ) -> io::Result<()> {
-    let (rounds, turns) = (done.rounds, done.turns);
+    let (rounds, turns, builds) = (done.rounds, done.turns, done.builds);
     println!(rt;
         "{seconds} seconds: {rounds} rounds, {turns} turns of threads, {builds} builds, {flips} flips, {resident} KiB"
     )
@@ -251,16 +222,17 @@ fn rounds<
         + Sync
         + Drop
         + 'static,
->(rt: &W, alloc: Global, sides: &Sides<W>, seconds: u64) -> Result<Done, Error> {
+>(rt: &W, alloc: Global, site: &Site, seconds: u64) -> Result<Done, Error> {
     let begun = rt.monotonic().unwrap_or(Duration::from_secs(0));
     let mut minutes = 0;
     let mut done = Done {
         rounds: 0,
         turns: 0,
+        builds: 0,
         after_a_minute: 0,
     };
     for _ in rt.forever() {
-        round(rt, alloc, sides, &mut done)?;
+        round(rt, alloc, site, &mut done)?;
         let passed = seconds_since(rt, begun);
         if passed / MINUTE > minutes {
             minutes = passed / MINUTE;
@@ -268,7 +240,7 @@ fn rounds<
             if done.after_a_minute == 0 {
                 done.after_a_minute = now;
             }
-            print_done(rt, passed, &done, builds_and_flips(sides), now)?;
+            print_done(rt, passed, &done, site.flips(), now)?;
         }
         if passed >= seconds {
             break;
@@ -304,13 +276,13 @@ fn soaked<
         + Sync
         + Drop
         + 'static,
->(rt: &W, alloc: Global, sides: &Sides<W>, seconds: u64) -> Result<(), Error> {
-    let done = rounds(rt, alloc, sides, seconds)?;
+>(rt: &W, alloc: Global, site: &Site, seconds: u64) -> Result<(), Error> {
+    let done = rounds(rt, alloc, site, seconds)?;
     println!(rt; "no answer was wrong, and every permit is back")?;
     remains(rt)?;
     let at_the_end = resident(rt)?;
     println!(rt; "no thread is left")?;
-    idle(rt, alloc, sides)?;
+    idle(rt, alloc, site)?;
     remains(rt)?;
     println!(rt; "idle groups take less than a hundredth of a processor")?;
     if seconds < 2 * MINUTE {
@@ -340,6 +312,18 @@ pub fn run<
         + 'static,
 >(rt: &W, alloc: Global, numbers: &[String]) -> Result<(), Error> {
     let seconds = u64::from(number_at(numbers, 0, 10)?);
-    let sides = [Side::new(rt, alloc)?, Side::new(rt, alloc)?];
-    soaked(rt, alloc, &sides, seconds)
+    let site = Site {
+        gates: [
+            Arc::new(alloc, SelectorRebuildGate::new(alloc)?)?,
+            Arc::new(alloc, SelectorRebuildGate::new(alloc)?)?,
+        ],
+        registries: [
+            Arc::new(alloc, HealthRegistry::new(alloc)?)?,
+            Arc::new(alloc, HealthRegistry::new(alloc)?)?,
+        ],
+    };
+    for registry in &site.registries {
+        registry.set_health_check(rt, Flips::new(PERIOD))?;
+    }
+    soaked(rt, alloc, &site, seconds)
 }

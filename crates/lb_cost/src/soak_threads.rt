@@ -76,10 +76,13 @@ fn generation_of(backend: &Backend) -> u64 {
     }
 }
 
-// Whether what was found is of one of these generations. None is found in generation 0, and where none is ready.
-fn is_within(found: Option<u64>, least: u64, most: u64) -> bool {
+// Whether a backend was found that is of one of these generations. None is found in generation 0, and where none is ready.
+fn is_within(found: &Option<Backend>, least: u64, most: u64) -> bool {
     match found {
-        Some(generation) => least <= generation && generation <= most && generation > 0,
+        Some(backend) => {
+            let generation = generation_of(backend);
+            least <= generation && generation <= most && generation > 0
+        }
         None => true,
     }
 }
@@ -97,15 +100,6 @@ fn reads<S: BackendSelection, D: ServiceDiscovery + Drop, R: KeyRule + Drop, C: 
     let served = group.selector_generation_as(slot, pass).unwrap_or(0);
     let newest = group.backend_generation_as(pass);
     read.note(slot, newest, served)
-}
-
-// The generation of what was found, where no memory was refused.
-fn told(found: Result<Option<Backend>, Refusal>) -> Result<Option<u64>, Refusal> {
-    match &found {
-        Ok(Some(backend)) => Ok(Some(generation_of(backend))),
-        Ok(None) => Ok(None),
-        Err(refusal) => Err(*refusal),
-    }
 }
 
 // Selects by a reader of a slot, which stays for some milliseconds or doesn't. Returns whether what was found is of the reader's
@@ -129,16 +123,16 @@ fn by_reader<
 {
     let reader = group.enter_as(rt, slot, pass)?;
     let generation = reader.generation();
-    let found = told(group.select_in(rt, alloc, &reader, &turn.to_le_bytes(), LIMIT, &any));
+    let found = group.select_in(rt, alloc, &reader, &turn.to_le_bytes(), LIMIT, &any);
     if turn % STAYS_EACH == 0 {
         thread::sleep(rt, Duration::from_millis(STAYS_MILLIS));
     }
     group.leave(rt, reader);
     let found = found?;
-    Ok(found.is_some() == (generation > 0) && is_within(found, generation, generation))
+    Ok(found.is_some() == (generation > 0) && is_within(&found, generation, generation))
 }
 
-// Selects by the handle, or every other time by a reader of it with a lane of its own; the generation of what was found.
+// Selects by the handle, or every other time by a reader of it with a lane of its own.
 fn selected<
     S: BackendSelection,
     D: ServiceDiscovery + Drop,
@@ -151,12 +145,12 @@ fn selected<
     group: &LoadBalancerGroup<S, D, R, C>,
     slot: usize,
     turn: u64,
-) -> Result<Option<u64>, Refusal> {
+) -> Result<Option<Backend>, Refusal> {
     let key = turn.to_le_bytes();
     if turn / 2 % 2 == 0 {
-        told(group.select(rt, alloc, slot, &key, LIMIT))
+        group.select(rt, alloc, slot, &key, LIMIT)
     } else {
-        told(group.reader().select(rt, alloc, slot, &key, LIMIT))
+        group.reader().select(rt, alloc, slot, &key, LIMIT)
     }
 }
 
@@ -187,9 +181,8 @@ fn is_right<
     let found = selected(rt, alloc, group, slot, turn)?;
     group.meet(rt, pass, other);
     let after = reads(group, slot, other, read);
-    let by_handle = is_within(found, least, read.newest);
-    let by_reader = by_reader(rt, alloc, group, slot, other, turn)?;
-    Ok(before & after & by_handle & by_reader)
+    let by_handle = is_within(&found, least, read.newest);
+    Ok(before && after && by_handle && by_reader(rt, alloc, group, slot, other, turn)?)
 }
 
 // Uses a group, a turn each millisecond, until the threads are to end. Returns whether each turn was right.
@@ -245,17 +238,10 @@ where
     started.ok()
 }
 
-/// The threads that use groups; none where one couldn't be started.
-pub type Users = Vec<Option<JoinHandle<bool>>>;
-
-/// Returns whether each thread could be started and found all right, once all have ended.
-pub fn joined<W: Threads>(rt: &W, users: Users) -> bool {
-    let mut are_right = true;
-    for user in users {
-        are_right &= match user {
-            Some(user) => user.join(rt),
-            None => false,
-        };
+/// Returns what a thread answered; `false` where none was started.
+pub fn joined<W: Threads>(rt: &W, user: Option<JoinHandle<bool>>) -> bool {
+    match user {
+        Some(user) => user.join(rt),
+        None => false,
     }
-    are_right
 }
