@@ -2,6 +2,7 @@
 //! backend, and what counts connections, is the caller's: a type with `Upstream`. What never changes is in `Settings`.
 
 pub mod connection;
+pub mod doors;
 pub mod engine;
 pub mod exchange;
 pub mod heads;
@@ -11,6 +12,7 @@ pub mod links;
 pub mod peer;
 pub mod pump;
 pub mod reach;
+pub mod relays;
 pub mod scene;
 pub mod session;
 pub mod settings;
