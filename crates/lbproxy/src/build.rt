@@ -147,7 +147,8 @@ fn pools_of<R: Log + Wait + Copy + Drop, C: HealthCheck + Drop>(
     commons: &Commons<C>,
 ) -> Result<Vec<Pool<R, C>>, Refusal> {
     let mut made = Vec::new(alloc);
-    for PoolConfig { name, source, .. } in pools {
+    for pool in pools {
+        let (name, source) = pool.into_parts();
         let common = commons.of(made.len());
         let kinds = kinds_of(alloc, listens, made.len())?;
         let backends = Arc::new(alloc, PoolBackends::new(alloc, source))?;
