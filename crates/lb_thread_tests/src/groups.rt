@@ -83,7 +83,8 @@ fn play<W: Abort + Log + Threads + Wait + Clock + Copy + Send + Sync + Drop + 's
         }
         Row::TicketsOfEach => tickets::tickets_of_each(rt, alloc, first),
         Row::SelectsWhileTheRegistryIsHeld => {
-            staying::selects_while_the_registry_is_held(rt, alloc, first, &*crowd.site.registry)
+            let (handle, registry) = (&crowd.first, &*crowd.site.registry);
+            staying::selects_while_the_registry_is_held(rt, alloc, handle, registry)
         }
     }
 }

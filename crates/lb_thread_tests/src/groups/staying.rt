@@ -1,16 +1,22 @@
 //! Readers that stay in what their slot retired, by calls: they hold up each rebuild on their gate, also in a cancelled group, and what
-//! they are in is destroyed once they have left. A selection in a lane, and `ready`, go on while the registry's lock is held.
+//! they are in is destroyed once they have left. Selections in a lane, and `ready`, go on while the registry's lock is held.
 use crate::groups::turns::{turn, update};
-use lb_crowd::crowd::{Registry, select_one};
+use lb_crowd::crowd::{NoCheck, Registry, select_one};
 use lb_threads_core::registry::{put_registry, take_registry};
-use pingora_load_balancing::health_check::{HealthCheck, KeyRule};
+use pingora_load_balancing::discovery::ServiceDiscovery;
+use pingora_load_balancing::health_check::{HealthCheck, KeyRule, NoRule, Rule};
 use pingora_load_balancing::plain::Counts;
 use pingora_load_balancing::port::{GroupPort, LockedPort, TakesBack, Turn};
 use pingora_load_balancing::selection::BackendSelection;
-use pingora_load_balancing::{Refusal, SharedGroup};
+use pingora_load_balancing::{Backend, HealthRegistry, LoadBalancerGroup, Refusal, SharedGroup};
 use std::alloc::Global;
 use std::process::Abort;
 use std::sync::Wait;
+use std::sync::atomic::AtomicU64;
+use std::sync::atomic::Ordering::SeqCst;
+use std::thread;
+use std::thread::{Threads, join};
+use std::time::{Clock, Duration};
 
 // Destroys what a slot retired, and reports it.
 fn destroyed<S: BackendSelection, R: KeyRule + Drop, C: HealthCheck + Drop, W: Wait>(
@@ -88,7 +94,7 @@ pub fn cancelled_while_read<
     R: KeyRule + Drop,
     C: HealthCheck + Drop,
     W: Wait + Abort,
->(rt: &W, alloc: Global, group: &SharedGroup<S, R, C>, registry: &Registry) {
+>(rt: &W, alloc: Global, group: &SharedGroup<S, R, C>, registry: &HealthRegistry<R, C>) {
     let mut pass = group.pass();
     update(rt, alloc, group, 1);
     let reader = group.enter_as(rt, 0, &mut pass).expect(rt, "refused");
@@ -117,23 +123,134 @@ pub fn cancelled_while_read<
     assert_eq!(rt; told, [true; 9]);
 }
 
-/// A selection takes no lock where nothing changed since the last one, nor does a reading of what is ready: they go on while this very
-/// thread holds the registry. A flip is seen by the next ones.
-pub fn selects_while_the_registry_is_held<
+// How many selections a thread makes at least while another one holds the registry for a second. A machine that is slow and busy makes
+// some ten thousand.
+const SELECTIONS: u64 = 1000;
+
+// What a word tells of a thread that holds the registry: it does, and it is about to let it go.
+const HELD: u64 = 1;
+
+const LET_GO: u64 = 2;
+
+// Whether slot 0 of a group selects this backend, which is ready.
+fn is_given<
     S: BackendSelection,
+    D: ServiceDiscovery + Drop,
     R: KeyRule + Drop,
     C: HealthCheck + Drop,
-    W: Wait + Abort,
->(rt: &W, alloc: Global, group: &SharedGroup<S, R, C>, registry: &Registry) {
+    W: Wait,
+>(rt: &W, alloc: Global, group: &LoadBalancerGroup<S, D, R, C>, wanted: &Backend) -> bool {
+    match group.select(rt, alloc, 0, b"k", 4) {
+        Ok(Some(found)) => found == *wanted && group.backends().ready(rt, wanted),
+        _ => false,
+    }
+}
+
+// Selects until the registry is let go; how often while it was held, or 0 where one of the answers was another one.
+fn goes_on<
+    S: BackendSelection,
+    D: ServiceDiscovery + Drop,
+    R: KeyRule + Drop,
+    C: HealthCheck + Drop,
+    W: Wait,
+>(
+    rt: &W,
+    alloc: Global,
+    group: &LoadBalancerGroup<S, D, R, C>,
+    wanted: &Backend,
+    word: &AtomicU64,
+) -> u64 {
+    let mut count: u64 = 0;
+    for _ in 0..u64::MAX {
+        let now = word.load(SeqCst);
+        if now == LET_GO {
+            break;
+        }
+        if !is_given(rt, alloc, group, wanted) {
+            return 0;
+        }
+        if now == HELD {
+            count = count.saturating_add(1);
+        }
+    }
+    count
+}
+
+// Holds the registry for a second.
+fn holds<R: KeyRule + Drop, C: HealthCheck + Drop, W: Wait + Clock>(
+    rt: &W,
+    registry: &HealthRegistry<R, C>,
+    word: &AtomicU64,
+) {
+    let held = take_registry(registry, rt);
+    word.store(HELD, SeqCst);
+    thread::sleep(rt, Duration::from_secs(1));
+    word.store(LET_GO, SeqCst);
+    put_registry(registry, held);
+}
+
+// How often this thread selects by a group's handle while another one holds the registry for a second, or 0 where one of the answers was
+// another one.
+fn beside_a_holder<
+    S: BackendSelection,
+    D: ServiceDiscovery + Drop,
+    W: Threads + Wait + Clock + Sync,
+>(
+    rt: &W,
+    alloc: Global,
+    group: &LoadBalancerGroup<S, D, Rule<NoRule>, NoCheck>,
+    registry: &Registry,
+    wanted: &Backend,
+) -> u64 {
+    let word = AtomicU64::new(0);
+    let ((), count) = join(
+        rt,
+        || holds(rt, registry, &word),
+        || goes_on(rt, alloc, group, wanted, &word),
+    );
+    count
+}
+
+// Whether this very thread selects by a group's handle while it holds the registry.
+fn selects_as_the_holder<
+    S: BackendSelection,
+    D: ServiceDiscovery + Drop,
+    R: KeyRule + Drop,
+    C: HealthCheck + Drop,
+    W: Wait,
+>(
+    rt: &W,
+    alloc: Global,
+    group: &LoadBalancerGroup<S, D, R, C>,
+    registry: &HealthRegistry<R, C>,
+    wanted: &Backend,
+) -> bool {
+    let held = take_registry(registry, rt);
+    let selects = is_given(rt, alloc, group, wanted);
+    put_registry(registry, held);
+    selects
+}
+
+/// A selection takes no lock where nothing changed since the last one, nor does a reading of what is ready: they go on while this very
+/// thread holds the registry, and all the second that another thread does. A flip is seen by the next ones.
+pub fn selects_while_the_registry_is_held<
+    S: BackendSelection,
+    D: ServiceDiscovery + Drop,
+    W: Abort + Threads + Wait + Clock + Sync,
+>(
+    rt: &W,
+    alloc: Global,
+    handle: &LoadBalancerGroup<S, D, Rule<NoRule>, NoCheck>,
+    registry: &Registry,
+) {
+    let group = &**handle.shared();
     update(rt, alloc, group, 1);
     let published = turn(rt, alloc, group, 0);
     let first = select_one(rt, alloc, group, 0).expect(rt, "refused");
     let first = first.expect(rt, "none is ready");
     let asked = group.ready(rt, &first);
-    let held = take_registry(registry, rt);
-    let second = select_one(rt, alloc, group, 0);
-    let again = group.ready(rt, &first);
-    put_registry(registry, held);
+    let again = selects_as_the_holder(rt, alloc, handle, registry, &first);
+    let count = beside_a_holder(rt, alloc, handle, registry, &first);
     let targets = registry.targets(rt, alloc).expect(rt, "refused");
     let cell = targets.get(0).map(|target| target.cell).unwrap_or(0);
     let flipped = registry.observe(rt, cell, false, 1);
@@ -141,7 +258,7 @@ pub fn selects_while_the_registry_is_held<
     let told = [
         published == Turn::Published(1),
         [asked, again, group.ready(rt, &first)] == [true, true, false],
-        second == Ok(Some(first)),
+        count >= SELECTIONS,
         flipped == Ok(true),
         third.is_none(),
         destroyed(rt, group, 0) == Ok(()),
