@@ -1,7 +1,8 @@
-//! Groups that threads share: a table of cases, each of which is played on two new groups of two slots on one gate; and a group whose slots
-//! are of two kinds.
+//! Groups that threads share: a table of cases, each of which is played on two new groups of two slots on one gate; a group whose slots are
+//! of two kinds; and groups of all forms of selection at once.
 
 mod builds;
+mod forms;
 mod handles;
 mod moments;
 mod passes;

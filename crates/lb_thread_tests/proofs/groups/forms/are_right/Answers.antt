@@ -1,0 +1,53 @@
+-- The closure may be shared by threads where what it captures may: the runtime, the allocator, the groups, their registry and the tally, in
+-- the order of their use.
+use denote.RattleType.{RattleType}
+use denote.Param.{param, copied, arg}
+use denote.Ref.{ShrRef}
+use denote.Slice.{ShrSlice}
+use denote.Struct.Field.{rows}
+use denote.Struct.Tuple.{parts, TupleAt, type_at, field_at}
+use denote.Struct.Declared.{shape}
+use denote.Exit.{Kept, no}
+use base.Fml.{Lft}
+use mir.Syntax.{Ty, Sym, Lifetime}
+use mathlib.Core.List.{List, [], ◌∷◌}
+use Prim.Native.Nat.{ℕ}
+use denote.Param.Send.{IsSync, AllSync, struct_sync, recorded_sync, param_sync, arg_sync, shr_sync, shr_slice_sync, sendable}
+use Rattle.std.proofs.Crossing.{crosses, sync}
+use Rattle.std.specs.contracts.alloc.Global as heap
+use Rattle.lb_balancer_group.specs.contracts.group.LoadBalancerGroup as handle
+use Rattle.lb_balancer_group.proofs.Handles.{handle_sync}
+use Rattle.lb_threads_core.specs.contracts.registry.HealthRegistry as registry
+use Rattle.lb_threads_core.proofs.registry.HealthRegistry.TheSendSync as registry_crossing
+use Rattle.lb_thread_tests.specs.contracts.groups.forms.Tally as tally
+use Rattle.lb_thread_tests.proofs.groups.forms.Tally.TheSendSync as tally_crossing
+use Rattle.lb_thread_tests.proofs.groups.forms.are_right.Goals as goal
+
+all_shared : (Ts : List RattleType) → AllSync Ts → AllSync (rows (parts Ts))
+all_shared [] s = tt
+all_shared (T ∷ Ts) s = (s.0, all_shared Ts s.1)
+
+-- a closure, which is the tuple of what it captures
+shared : (i : ℕ) (τ : Ty) (k : Kept) (n : Sym) (Ts : List RattleType) → AllSync Ts → IsSync (param i (arg τ k (TupleAt n Ts)))
+shared i τ k n Ts s = param_sync i (arg τ k (TupleAt n Ts)) (arg_sync τ k (TupleAt n Ts)
+    (recorded_sync (field_at n Ts).row _ _ (type_at n Ts).to_one (struct_sync (shape (type_at n Ts)) (all_shared Ts s))))
+
+crossing : (τ : Ty) (k : Kept) (n : Sym) (ℓ0 ℓ1 ℓ2 ℓ3 : Lifetime) (κ0 κ1 κ2 κ3 : Lft) (W G Q T : RattleType) → IsSync W → IsSync G
+    → IsSync Q → IsSync T
+    → IsSync (param 3 (arg τ k (TupleAt n (ShrRef ℓ0 κ0 W ∷ heap.the_row ∷ ShrSlice ℓ1 κ1 G ∷ ShrRef ℓ2 κ2 Q ∷ ShrRef ℓ3 κ3 T ∷ []))))
+crossing τ k n ℓ0 ℓ1 ℓ2 ℓ3 κ0 κ1 κ2 κ3 W G Q T w g q t =
+    shared 3 τ k n (ShrRef ℓ0 κ0 W ∷ heap.the_row ∷ ShrSlice ℓ1 κ1 G ∷ ShrRef ℓ2 κ2 Q ∷ ShrRef ℓ3 κ3 T ∷ [])
+    (shr_sync ℓ0 κ0 W w, (sync, (shr_slice_sync ℓ1 κ1 G g, (shr_sync ℓ2 κ2 Q q, (shr_sync ℓ3 κ3 T t, tt)))))
+
+pub map_indices-parts-requires-sync-F : goal.map_indices-parts-requires-sync-F
+map_indices-parts-requires-sync-F g c κs within =
+    let T = param 0 g.row.S in let D = param 1 g.row.D in let R = param 2 g.row.R in let H = param 3 g.row.C in
+    let C = param 5 g.row.S-Config in let W = param 6 g.row.S-Walk in
+    let b = c.type_bounds in
+    let group = handle.the_row T D R H C W g.S.BackendSelection g.R.KeyRule in
+    let y = handle_sync T D R H C W g.S.BackendSelection g.R.KeyRule b.send-S b.send-S-Config b.sync-S
+    b.sync-S-Config b.send-D b.sync-D b.send-R b.sync-R b.send-C b.sync-C in
+    let q : IsSync (registry.the_row R H g.R.KeyRule) =
+    search (sendable, crosses, registry_crossing.the_sync, b.send-R, b.send-C, b.sync-C) depth 20 in
+    let t : IsSync tally.the_row = search (sendable, crosses, tally_crossing.the_sync) depth 20 in
+    crossing _ no _ _ _ _ _ _ _ _ _ (copied 4 g.row.W) group (registry.the_row R H g.R.KeyRule) tally.the_row b.sync-W y q t
