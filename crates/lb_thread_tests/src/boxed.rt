@@ -103,10 +103,10 @@ fn served<W: Abort + Log + Threads + Wait + Sync>(
     let mut clock = Ticks { next: 0, step: 5 };
     balancer.update(rt, alloc, &mut clock).expect(rt, "refused");
     turns(rt, alloc, balancer, text);
-    for (is_down, parallel) in [(true, false), (false, true)] {
-        words.is_down.store(is_down, SeqCst);
+    for (is_down, parallel) in &[(true, false), (false, true)] {
+        words.is_down.store(*is_down, SeqCst);
         balancer
-            .run_health_check(rt, alloc, parallel)
+            .run_health_check(rt, alloc, *parallel)
             .expect(rt, "refused");
         turns(rt, alloc, balancer, text);
     }

@@ -103,8 +103,8 @@ fn note_ready<W: Abort + Wait + Clock + Drop>(
     view: &PortsView<W>,
     text: &mut String,
 ) {
-    for address in LISTED {
-        let backend = Backend::new(alloc, address).expect(rt, "refused");
+    for address in &LISTED {
+        let backend = Backend::new(alloc, *address).expect(rt, "refused");
         let mark = if view.ready(rt, &backend) {
             " yes"
         } else {
@@ -124,8 +124,8 @@ fn flips<W: Abort + Log + Threads + Wait + Clock + Send + Sync + Drop>(
 ) {
     view.update(rt, alloc, |_| {}).expect(rt, "refused");
     note_ready(rt, alloc, view, text);
-    for verdict in [false, true] {
-        let flipped = registry.observe(rt, 0, verdict, 1);
+    for verdict in &[false, true] {
+        let flipped = registry.observe(rt, 0, *verdict, 1);
         write!(text, " {}", flipped.expect(rt, "refused")).expect(rt, "refused");
         note_ready(rt, alloc, view, text);
     }

@@ -1,4 +1,5 @@
 //! Services that run, while another thread sends the end.
+use crate::asserted::assert_same;
 use crate::ends::{Ends, send_end};
 use crate::service_fixtures::{Checked, ServiceBench, Ticks, counted, one_backend, registry_of};
 use log::sink::Locked;
@@ -359,8 +360,7 @@ fn played<R: Abort + Log + Threads + Wait + Clock + Copy + Send + Sync + Drop>(
 #[test]
 fn rows_of_services(rt: HostRuntime) {
     for row in &ROWS {
-        let name = row.name;
-        assert_eq!(rt; played(&rt, rt.alloc(), row), row.wanted, "{name}");
+        assert_same(&rt, &played(&rt, rt.alloc(), row), &row.wanted, &row.name);
     }
 }
 

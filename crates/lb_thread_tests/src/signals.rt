@@ -66,14 +66,12 @@ fn left<R: Abort>(rt: &R, alloc: Global, sent: &[bool]) -> (Option<Event>, bool)
 // A signal that is gone is closed, unless its latest was the end.
 #[test]
 fn dropped_signal_is_closed(rt: HostRuntime) {
-    let rows: [(&[bool], (Option<Event>, bool)); 3] = [
-        (&[], (CLOSED, false)),
-        (&[true, false], (CLOSED, false)),
-        (&[false, true], (SHUTDOWN, true)),
+    let told = [
+        left(&rt, rt.alloc(), &[]),
+        left(&rt, rt.alloc(), &[true, false]),
+        left(&rt, rt.alloc(), &[false, true]),
     ];
-    for (sent, wanted) in rows {
-        assert_eq!(rt; left(&rt, rt.alloc(), sent), wanted);
-    }
+    assert_eq!(rt; told, [(CLOSED, false), (CLOSED, false), (SHUTDOWN, true)]);
 }
 
 // What a wait until 95 tells to one that heard this, and where its clock is then, which goes on by 10 from 0.

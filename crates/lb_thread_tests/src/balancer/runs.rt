@@ -1,4 +1,5 @@
 //! Balancers that run in the background, while another thread opens what they wait for or tells them to end.
+use crate::asserted::assert_same;
 use crate::balancer::fixtures::{Bench, FAULT, ROWS, waited};
 use crate::ends::{Ends, send_end};
 use crate::service_fixtures::Ticks;
@@ -223,6 +224,30 @@ fn play<
     run_beside(rt, logged, bench, case, &mut ends)
 }
 
+// Each case, what the other thread saw, and what was left; how often one updates that goes on until it hears the end can't be told.
+const CASES: [(Case, Told, Option<Left>); 8] = [
+    (Case::Ended, (true, 0, false), Some((0, false, 0, 0, false))),
+    (
+        Case::Refused,
+        (true, 0, false),
+        Some((0, false, 1, 0, true)),
+    ),
+    (Case::Mended, (true, 0, true), None),
+    (Case::Alone, (true, 0, false), Some((1, false, 1, 0, true))),
+    (Case::Sleeps, (true, 1, true), Some((1, false, 1, 0, true))),
+    (Case::Waits, (true, 0, false), Some((1, false, 1, 0, true))),
+    (
+        Case::EndedInUpdate,
+        (true, 0, false),
+        Some((1, false, 1, 0, false)),
+    ),
+    (
+        Case::EndedInCheck,
+        (true, 1, true),
+        Some((1, true, 1, 3, true)),
+    ),
+];
+
 // A run that is to end before it begins updates nothing. A refused update is one too: the notifier is notified, and the run that has no
 // other one ends by itself. So does a run that nobody can end any more, once it has updated. One that sleeps goes on when it hears that
 // services are not to end. The notifier is notified after the first update and not before. An update that runs when services are to end
@@ -231,25 +256,9 @@ fn rows<
     R: Abort + Threads + Wait + Clock + Copy + Send + Sync + Drop,
     W: Log + Threads + Wait + Sync,
 >(rt: &R, logged: &W, bench: &mut Bench<RoundRobin, R>) {
-    let rows: [(Case, (Told, Left)); 7] = [
-        (Case::Ended, ((true, 0, false), (0, false, 0, 0, false))),
-        (Case::Refused, ((true, 0, false), (0, false, 1, 0, true))),
-        (Case::Alone, ((true, 0, false), (1, false, 1, 0, true))),
-        (Case::Sleeps, ((true, 1, true), (1, false, 1, 0, true))),
-        (Case::Waits, ((true, 0, false), (1, false, 1, 0, true))),
-        (
-            Case::EndedInUpdate,
-            ((true, 0, false), (1, false, 1, 0, false)),
-        ),
-        (Case::EndedInCheck, ((true, 1, true), (1, true, 1, 3, true))),
-    ];
-    for (case, wanted) in rows {
-        let seen = play(rt, logged, bench, case);
-        assert_eq!(rt; seen, wanted, "{case:?}");
-        if case == Case::Refused {
-            let (told, _) = play(rt, logged, bench, Case::Mended);
-            assert_eq!(rt; told, (true, 0, true));
-        }
+    for (case, told, left) in &CASES {
+        let seen = play(rt, logged, bench, *case);
+        assert_same(rt, &seen, &(*told, left.unwrap_or(seen.1)), case);
     }
 }
 

@@ -83,17 +83,25 @@ fn texts_are_served(rt: HostRuntime) {
         at 10 generation 0 took 5 0 members 0 ready false false none\n\
         at 20 generation 0 took 5 0 members 0 ready false false none\n";
     assert_eq!(rt; text.as_str(), wanted);
-    refused(&rt, alloc);
+}
+
+// Why an address and this text make no balancer.
+fn refused<R: Net + Wait + Clock + Copy + Drop>(
+    rt: &R,
+    alloc: Global,
+    text: &'static str,
+) -> Option<Refusal> {
+    let mut clock = Ticks { next: 0, step: 5 };
+    made_of(rt, alloc, &["1.0.0.1:80", text], &mut clock).err()
 }
 
 // Texts that are refused.
-fn refused<R: Abort + Net + Wait + Clock + Copy + Drop>(rt: &R, alloc: Global) {
-    for (text, refusal) in [
-        ("[fe80::1%3]:80", Refusal::InvalidAddress),
-        ("1.1.1.1", Refusal::Discovery),
-    ] {
-        let mut clock = Ticks { next: 0, step: 5 };
-        let made = made_of(rt, alloc, &["1.0.0.1:80", text], &mut clock);
-        assert_eq!(rt; made.err(), Some(refusal));
-    }
+#[test]
+fn texts_are_refused(rt: HostRuntime) {
+    let told = [
+        refused(&rt, rt.alloc(), "[fe80::1%3]:80"),
+        refused(&rt, rt.alloc(), "1.1.1.1"),
+    ];
+    let wanted = [Some(Refusal::InvalidAddress), Some(Refusal::Discovery)];
+    assert_eq!(rt; told, wanted);
 }

@@ -1,6 +1,7 @@
 //! Turns and workers by clocks that go wrong: one that goes back, and one that is at the last moment there is.
 ghost use Rattle.std.specs.Prelude.{◌≡◌};
 
+use crate::asserted::assert_same;
 use crate::groups::turns::too_heavy;
 use lb_crowd::crowd::{Crowd, crowd_in, one_backend};
 use log::Log;
@@ -95,10 +96,8 @@ pub fn clock_goes_back<
 >(rt: &W, alloc: Global, group: &SharedGroup<S, R, C>) {
     for (moment, wanted) in &ROWS {
         let clock = At { moment: *moment };
-        assert!(rt;
-            comes_of(rt, alloc, group, clock, *wanted) == Ok(*wanted),
-            "{wanted:?}"
-        );
+        let done = comes_of(rt, alloc, group, clock, *wanted);
+        assert_same(rt, &done, &Ok(*wanted), wanted);
     }
     let timing = Timing {
         generation: 5,

@@ -2,6 +2,7 @@
 //! to its end, and what it did is kept. One updates again and again, and is shut down once its slots serve what was found; and one has
 //! nobody who could shut it down.
 use super::TURNS;
+use crate::asserted::assert_same;
 use crate::noted::Noted;
 use lb_crowd::counted::{Counted, Counting, Counts};
 use lb_crowd::crowd::serves;
@@ -222,6 +223,48 @@ struct Wanted {
     is_told: bool,
 }
 
+impl Wanted {
+    // What such a run leaves.
+    fn leaves(&self) -> Left {
+        let generation = if self.is_told { 2 } else { 1 };
+        Left {
+            updates: self.updates,
+            checks: self.checks,
+            generation,
+            served: Some(if self.is_told { 2 } else { 0 }),
+            is_ready: self.updates == 1,
+            is_told: self.is_told,
+        }
+    }
+}
+
+const RUNS: [Wanted; 4] = [
+    Wanted {
+        updates: 1,
+        checks: 0,
+        builds: 1,
+        is_told: false,
+    },
+    Wanted {
+        updates: 2,
+        checks: 1,
+        builds: 1,
+        is_told: false,
+    },
+    Wanted {
+        updates: 3,
+        checks: 2,
+        builds: 2,
+        is_told: false,
+    },
+    Wanted {
+        updates: 6,
+        checks: 3,
+        builds: 2,
+        is_told: true,
+    },
+];
+
 // Sends the end once so much was counted, within ten seconds; whether it was.
 fn end_after<W: Clock>(
     counts: &Counts<W>,
@@ -273,18 +316,8 @@ fn what_is_under_way_is_let_end(rt: HostRuntime) {
     let noted = Noted::new(rt, alloc);
     let logged = Logged::new(rt, Level::Error, noted);
     let mut bench = Bench::new(rt, alloc);
-    for (updates, checks, builds, is_told) in [
-        (1, 0, 1, false),
-        (2, 1, 1, false),
-        (3, 2, 2, false),
-        (6, 3, 2, true),
-    ] {
-        let wanted = Wanted {
-            updates,
-            checks,
-            builds,
-            is_told,
-        };
+    for wanted in &RUNS {
+        let wanted = *wanted;
         let (notifier, ready) = bench.begin(&rt, alloc, wanted);
         let (counts, calls, signal) = (&*bench.counts, &*bench.calls, &mut bench.signal);
         let (group, watch, mut clock) = (&bench.group, &bench.watch, RuntimeClock::new(rt));
@@ -293,18 +326,8 @@ fn what_is_under_way_is_let_end(rt: HostRuntime) {
             || end_after(counts, calls, &ready, wanted, signal),
             move || group.run(&logged, alloc, &mut clock, watch, Some(notifier)),
         );
-        let left = Left {
-            updates,
-            checks,
-            generation: if is_told { 2 } else { 1 },
-            served: Some(if is_told { 2 } else { 0 }),
-            is_ready: updates == 1,
-            is_told,
-        };
-        assert_eq!(rt;
-            (came, bench.left(&rt, alloc, &ready, wanted)),
-            (true, left)
-        );
+        let told = (came, bench.left(&rt, alloc, &ready, wanted));
+        assert_same(&rt, &told, &(true, wanted.leaves()), &wanted);
     }
     bench.group.update_frequency = None;
     assert!(rt; runs_alone(&rt, &logged, alloc, &bench));

@@ -40,8 +40,8 @@ impl<R: Abort + Wait + Clock + Copy + Drop> Bench<R> {
         let backends = Backends::new_with_health_registry(rt, alloc, in_turn(rt, &line), shared);
         let backends = backends.expect(rt, "refused");
         let mut configs = Vec::new(alloc);
-        for kind in [Kind::Least, Kind::Ketama] {
-            configs.push(Some(kind)).expect(rt, "refused");
+        for kind in &[Kind::Least, Kind::Ketama] {
+            configs.push(Some(*kind)).expect(rt, "refused");
         }
         let group = LoadBalancerGroup::from_backends_with_configs(rt, alloc, backends, configs);
         Bench {
@@ -74,8 +74,8 @@ impl<R: Abort + Wait + Clock + Copy + Drop> Bench<R> {
         self.group
             .update(rt, self.alloc, &mut clock)
             .expect(rt, "refused");
-        for slot in [0, 0, 1, 1] {
-            turn(rt, self.alloc, &**self.group.shared(), slot);
+        for slot in &[0, 0, 1, 1] {
+            turn(rt, self.alloc, &**self.group.shared(), *slot);
         }
         self.note(rt, text);
     }
@@ -131,8 +131,8 @@ fn loads_beside_workers<
     let clock = RuntimeClock::new(*rt);
     let missing = bench.group.start_workers(rt, bench.alloc, clock);
     write!(text, "{missing}").expect(rt, "refused");
-    for (address, number) in [("1.0.0.1:80", 9), ("1.0.0.2:80", 8), ("1.0.0.3:80", 7)] {
-        load(rt, bench, address, number, text);
+    for (address, number) in &[("1.0.0.1:80", 9), ("1.0.0.2:80", 8), ("1.0.0.3:80", 7)] {
+        load(rt, bench, *address, *number, text);
     }
     rebuilt(rt, bench, text);
     rebuilt(rt, bench, text);
