@@ -3,8 +3,11 @@ use super::TURNS;
 use super::turns::turn;
 use lb_crowd::crowd::{Group, Handle};
 use log::Log;
-use pingora_load_balancing::Backend;
 use pingora_load_balancing::background::{RuntimeClock, start_workers_by};
+use pingora_load_balancing::discovery::ServiceDiscovery;
+use pingora_load_balancing::health_check::{HealthCheck, KeyRule};
+use pingora_load_balancing::selection::BackendSelection;
+use pingora_load_balancing::{Backend, LoadBalancerGroup};
 use std::alloc::Global;
 use std::process::Abort;
 use std::sync::Wait;
@@ -15,20 +18,24 @@ use std::thread::Threads;
 use std::time::{Clock, Duration};
 
 // What a slot of a handle selects.
-fn selected<W: Abort + Wait + Clock + Copy + Drop>(
-    rt: &W,
-    alloc: Global,
-    group: &Handle<W>,
-) -> Option<Backend> {
+fn selected<
+    S: BackendSelection,
+    D: ServiceDiscovery + Drop,
+    R: KeyRule + Drop,
+    C: HealthCheck + Drop,
+    W: Abort + Wait,
+>(rt: &W, alloc: Global, group: &LoadBalancerGroup<S, D, R, C>) -> Option<Backend> {
     group.select(rt, alloc, 0, b"k", 4).expect(rt, "refused")
 }
 
 // What a handle answers before its first update.
-fn fresh<W: Abort + Wait + Clock + Copy + Drop>(
-    rt: &W,
-    alloc: Global,
-    group: &Handle<W>,
-) -> [bool; 9] {
+fn fresh<
+    S: BackendSelection,
+    D: ServiceDiscovery + Drop,
+    R: KeyRule + Drop,
+    C: HealthCheck + Drop,
+    W: Abort + Wait,
+>(rt: &W, alloc: Global, group: &LoadBalancerGroup<S, D, R, C>) -> [bool; 9] {
     let has_third = group.selector_generation(rt, 2).is_some()
         || group.selector_coalesced_rebuilds(rt, 2).is_some()
         || group.selector_failed_rebuilds(rt, 2).is_some();
@@ -47,11 +54,13 @@ fn fresh<W: Abort + Wait + Clock + Copy + Drop>(
 
 // What the borrowed backends of a handle show before its first update, after it, and once a flag is set. Its first slot, whose turns this
 // thread takes, selects the one member then, and nothing once that is disabled.
-fn lent<W: Abort + Wait + Clock + Copy + Drop>(
-    rt: &W,
-    alloc: Global,
-    group: &Handle<W>,
-) -> [bool; 9] {
+fn lent<
+    S: BackendSelection,
+    D: ServiceDiscovery + Drop,
+    R: KeyRule + Drop,
+    C: HealthCheck + Drop,
+    W: Abort + Wait + Clock + Copy,
+>(rt: &W, alloc: Global, group: &LoadBalancerGroup<S, D, R, C>) -> [bool; 9] {
     let backends = group.backends();
     let one = Backend::new(alloc, "1.0.0.1:80").expect(rt, "refused");
     let other = Backend::new(alloc, "1.0.0.2:80").expect(rt, "refused");
@@ -78,22 +87,25 @@ fn lent<W: Abort + Wait + Clock + Copy + Drop>(
 }
 
 /// A new handle tells that nothing was updated; its backends are read and marked without workers. It isn't cancelled.
-pub fn without_workers<W: Abort + Wait + Clock + Copy + Drop>(
-    rt: &W,
-    alloc: Global,
-    group: &Handle<W>,
-) {
+pub fn without_workers<
+    S: BackendSelection,
+    D: ServiceDiscovery + Drop,
+    R: KeyRule + Drop,
+    C: HealthCheck + Drop,
+    W: Abort + Wait + Clock + Copy,
+>(rt: &W, alloc: Global, group: &LoadBalancerGroup<S, D, R, C>) {
     let told = [fresh(rt, alloc, group), lent(rt, alloc, group)];
     assert_eq!(rt; told, [[true; 9]; 2]);
 }
 
 /// A slot has so many rebuilds that were coalesced, and so many that failed.
-pub fn counts<W: Abort + Wait + Clock + Copy + Drop>(
-    rt: &W,
-    group: &Handle<W>,
-    slot: usize,
-    wanted: [u64; 2],
-) {
+pub fn counts<
+    S: BackendSelection,
+    D: ServiceDiscovery + Drop,
+    R: KeyRule + Drop,
+    C: HealthCheck + Drop,
+    W: Abort + Wait,
+>(rt: &W, group: &LoadBalancerGroup<S, D, R, C>, slot: usize, wanted: [u64; 2]) {
     let [coalesced, failed] = wanted;
     let told = [
         group.selector_coalesced_rebuilds(rt, slot),
@@ -103,7 +115,13 @@ pub fn counts<W: Abort + Wait + Clock + Copy + Drop>(
 }
 
 // Whether each slot of a group serves its newest generation within a thousand turns of ten milliseconds.
-fn becomes_ready<W: Wait + Clock + Copy + Drop>(rt: &W, group: &Handle<W>) -> bool {
+fn becomes_ready<
+    S: BackendSelection,
+    D: ServiceDiscovery + Drop,
+    R: KeyRule + Drop,
+    C: HealthCheck + Drop,
+    W: Wait + Clock,
+>(rt: &W, group: &LoadBalancerGroup<S, D, R, C>) -> bool {
     for _ in 0..TURNS {
         if group.selectors_ready_for(rt, group.backend_generation(rt)) {
             return true;

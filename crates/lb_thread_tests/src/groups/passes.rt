@@ -6,7 +6,10 @@ use super::TURNS;
 use lb_crowd::crowd::Handle;
 use log::Log;
 use pingora_load_balancing::background::RuntimeClock;
-use pingora_load_balancing::{Backend, GroupPass};
+use pingora_load_balancing::discovery::ServiceDiscovery;
+use pingora_load_balancing::health_check::{HealthCheck, KeyRule};
+use pingora_load_balancing::selection::BackendSelection;
+use pingora_load_balancing::{Backend, GroupPass, LoadBalancerGroup};
 use std::alloc::Global;
 use std::process::Abort;
 use std::sync::Wait;
@@ -15,11 +18,13 @@ use std::thread::Threads;
 use std::time::{Clock, Duration};
 
 // What is read of the first update while no worker runs.
-fn told_before<W: Wait + Clock + Copy + Drop>(
-    rt: &W,
-    alloc: Global,
-    group: &Handle<W>,
-) -> [bool; 5] {
+fn told_before<
+    S: BackendSelection,
+    D: ServiceDiscovery + Drop,
+    R: KeyRule + Drop,
+    C: HealthCheck + Drop,
+    W: Wait + Clock + Copy,
+>(rt: &W, alloc: Global, group: &LoadBalancerGroup<S, D, R, C>) -> [bool; 5] {
     let mut pass = group.pass();
     let generation = group.update_as(rt, alloc, &mut RuntimeClock::new(*rt), &mut pass);
     [
@@ -32,11 +37,13 @@ fn told_before<W: Wait + Clock + Copy + Drop>(
 }
 
 // Whether each slot serves generation 1 to a pass, within a thousand turns of ten milliseconds.
-fn comes_to_serve<W: Wait + Clock + Copy + Drop>(
-    rt: &W,
-    group: &Handle<W>,
-    pass: &mut GroupPass,
-) -> bool
+fn comes_to_serve<
+    S: BackendSelection,
+    D: ServiceDiscovery + Drop,
+    R: KeyRule + Drop,
+    C: HealthCheck + Drop,
+    W: Wait + Clock,
+>(rt: &W, group: &LoadBalancerGroup<S, D, R, C>, pass: &mut GroupPass) -> bool
     requires { pass.old.board ≡ (arc_value group.now.shared).board }
     ensures { pass.new.board ≡ (arc_value group.now.shared).board }
 {
@@ -50,10 +57,16 @@ fn comes_to_serve<W: Wait + Clock + Copy + Drop>(
 }
 
 // The generation of a reader that enters slot 0 and leaves again, and what it selects.
-fn entered<W: Abort + Wait + Clock + Copy + Drop>(
+fn entered<
+    S: BackendSelection,
+    D: ServiceDiscovery + Drop,
+    R: KeyRule + Drop,
+    C: HealthCheck + Drop,
+    W: Abort + Wait,
+>(
     rt: &W,
     alloc: Global,
-    group: &Handle<W>,
+    group: &LoadBalancerGroup<S, D, R, C>,
     pass: &mut GroupPass,
 ) -> (u64, Option<Backend>)
     requires { pass.old.board ≡ (arc_value group.now.shared).board }
@@ -66,12 +79,13 @@ fn entered<W: Abort + Wait + Clock + Copy + Drop>(
 }
 
 // What passes read once the workers run: by one that waits for it, and by one that meets that. What a reader selects then.
-fn told_after<W: Abort + Wait + Clock + Copy + Drop>(
-    rt: &W,
-    alloc: Global,
-    group: &Handle<W>,
-    expected: &Backend,
-) -> [bool; 5] {
+fn told_after<
+    S: BackendSelection,
+    D: ServiceDiscovery + Drop,
+    R: KeyRule + Drop,
+    C: HealthCheck + Drop,
+    W: Abort + Wait + Clock,
+>(rt: &W, alloc: Global, group: &LoadBalancerGroup<S, D, R, C>, expected: &Backend) -> [bool; 5] {
     let (mut pass, mut other) = (group.pass(), group.pass());
     let serves = comes_to_serve(rt, group, &mut pass);
     let served = group.selector_generation_as(0, &mut pass);
@@ -88,10 +102,16 @@ fn told_after<W: Abort + Wait + Clock + Copy + Drop>(
 }
 
 // Whether a slot of a handle selects that backend, by itself and by a reader.
-fn selects<W: Abort + Wait + Clock + Copy + Drop>(
+fn selects<
+    S: BackendSelection,
+    D: ServiceDiscovery + Drop,
+    R: KeyRule + Drop,
+    C: HealthCheck + Drop,
+    W: Abort + Wait,
+>(
     rt: &W,
     alloc: Global,
-    group: &Handle<W>,
+    group: &LoadBalancerGroup<S, D, R, C>,
     slot: usize,
     expected: Option<&Backend>,
 ) -> bool {
@@ -104,12 +124,13 @@ fn selects<W: Abort + Wait + Clock + Copy + Drop>(
 }
 
 // What a handle answers once its workers served an update: what it selects from each slot and from one that isn't there, and its timings.
-fn served<W: Abort + Wait + Clock + Copy + Drop>(
-    rt: &W,
-    alloc: Global,
-    group: &Handle<W>,
-    expected: &Backend,
-) -> [bool; 7] {
+fn served<
+    S: BackendSelection,
+    D: ServiceDiscovery + Drop,
+    R: KeyRule + Drop,
+    C: HealthCheck + Drop,
+    W: Abort + Wait,
+>(rt: &W, alloc: Global, group: &LoadBalancerGroup<S, D, R, C>, expected: &Backend) -> [bool; 7] {
     [
         group.selectors_ready_for(rt, group.backend_generation(rt)),
         selects(rt, alloc, group, 0, Some(expected)),
