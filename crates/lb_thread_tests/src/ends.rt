@@ -6,12 +6,22 @@ use pingora_load_balancing::background::{
 use std::alloc::Global;
 
 /// The ends; the signal and the notifier can be taken.
-#[derive(Drop)]
 pub struct Ends {
     pub signal: Option<ShutdownSignal>,
     pub watch: ShutdownWatch,
     pub notifier: Option<ServiceReadyNotifier>,
     pub ready: ReadyWatch,
+}
+
+impl Drop for Ends {
+    fn drop(self) {
+        let Ends {
+            signal: _,
+            watch: _,
+            notifier: _,
+            ready: _,
+        } = self;
+    }
 }
 
 impl Ends {

@@ -78,12 +78,22 @@ pub fn registry_of<R: Abort>(rt: &R, alloc: Global, is_empty: bool) -> KeyedRegi
 }
 
 /// A service over a registry, the count of the registry's checks, and the ends of what tells it to end and of what it notifies.
-#[derive(Drop)]
-pub struct ServiceBench<R> {
+pub struct ServiceBench<R: Drop> {
     pub service: HealthCheckService<Rule<NoRule>, Down<R>>,
     pub registry: Arc<Checked<R>>,
     pub checks: Arc<AtomicU64>,
     pub ends: Ends,
+}
+
+impl<R: Drop> Drop for ServiceBench<R> {
+    fn drop(self) {
+        let ServiceBench {
+            service: _,
+            registry: _,
+            checks: _,
+            ends: _,
+        } = self;
+    }
 }
 
 impl<R: Abort + Wait + Clock + Copy + Send + Sync + Drop> ServiceBench<R> {

@@ -41,7 +41,7 @@ fn selects_meanwhile<R: Abort + Wait + Clock + Copy + Drop>(
 }
 
 // The backend of weight 1 at an address.
-fn at<R: Abort>(rt: &R, bench: &Bench<RoundRobin, R>, address: &str) -> Backend {
+fn at<R: Abort + Drop>(rt: &R, bench: &Bench<RoundRobin, R>, address: &str) -> Backend {
     Backend::new(bench.alloc, address).expect(rt, "refused")
 }
 
@@ -218,8 +218,8 @@ fn after_passes<R: Abort + Log + Threads + Wait + Clock + Copy + Send + Sync + D
     bench.set_check(rt);
     let mut reader = Some(bench.balancer.reader(rt, bench.alloc).expect(rt, "refused"));
     let mut seen = [(0, 0); 3];
-    for (place, answers) in [UP, ROWS, UP].into_iter().enumerate() {
-        bench.checks.begin(true, answers);
+    for (place, answers) in [UP, ROWS, UP].iter().enumerate() {
+        bench.checks.begin(true, *answers);
         registry
             .run_health_check(rt, bench.alloc, false)
             .expect(rt, "refused");

@@ -194,12 +194,22 @@ pub type Tested<S, R> = LoadBalancer<S, InTurn<R>, Rule<NoRule>, SecondDown<R>>;
 pub type TestedRegistry<R> = HealthRegistry<Rule<NoRule>, SecondDown<R>>;
 
 /// A balancer, and the lines to its discovery and to its check, once that is set.
-#[derive(Drop)]
-pub struct Bench<S: BackendSelection, R> {
+pub struct Bench<S: BackendSelection, R: Drop> {
     pub alloc: Global,
     pub line: Arc<Line>,
     pub checks: Arc<Line>,
     pub balancer: Tested<S, R>,
+}
+
+impl<S: BackendSelection, R: Drop> Drop for Bench<S, R> {
+    fn drop(self) {
+        let Bench {
+            alloc: _,
+            line: _,
+            checks: _,
+            balancer: _,
+        } = self;
+    }
 }
 
 impl<S: BackendSelection, R: Abort + Wait + Clock + Copy + Drop> Bench<S, R> {

@@ -72,24 +72,44 @@ fn leaves<R: Abort + Wait + Clock + Copy + Drop>(
     balancer.leave(rt);
 }
 
+// A balancer that is dropped while the registry is out of its lock.
+fn leaves_locked<R: Abort + Wait + Clock + Copy + Drop>(
+    rt: &R,
+    alloc: Global,
+    registry: &Shared<R>,
+    balancer: Tested<RoundRobin, R>,
+    text: &mut String,
+) {
+    select(rt, alloc, &balancer, text);
+    let held = take_registry(registry, rt);
+    drop(balancer);
+    put_registry(registry, held);
+    count(rt, alloc, registry, text);
+}
+
+// Two of three balancers that leave, the second one as it is dropped.
+fn leave<R: Abort + Wait + Clock + Copy + Drop>(
+    rt: &R,
+    alloc: Global,
+    registry: &Arc<Shared<R>>,
+    text: &mut String,
+) {
+    let stays = sharing(rt, alloc, registry, "1.0.0.1:80");
+    let dropped = sharing(rt, alloc, registry, "1.0.0.3:80");
+    let second = sharing(rt, alloc, registry, "1.0.0.2:80");
+    leaves(rt, alloc, &**registry, &second, text);
+    drop(second);
+    leaves_locked(rt, alloc, &**registry, dropped, text);
+    select(rt, alloc, &stays, text);
+}
+
 // What leaves has no targets any more, and what else is in the registry stays; a balancer leaves when it is dropped, also while the
 // registry is out of its lock.
 #[test]
 fn views_leave(rt: HostRuntime) {
-    let alloc = rt.alloc();
-    let registry = HealthRegistry::new(alloc).expect(&rt, "refused");
-    let registry = Arc::new(alloc, registry).expect(&rt, "refused");
-    let mut text = String::new(alloc);
-    let stays = sharing(&rt, alloc, &registry, "1.0.0.1:80");
-    let dropped = sharing(&rt, alloc, &registry, "1.0.0.3:80");
-    let second = sharing(&rt, alloc, &registry, "1.0.0.2:80");
-    leaves(&rt, alloc, &*registry, &second, &mut text);
-    drop(second);
-    select(&rt, alloc, &dropped, &mut text);
-    let held = take_registry(&registry, &rt);
-    drop(dropped);
-    put_registry(&registry, held);
-    count(&rt, alloc, &*registry, &mut text);
-    select(&rt, alloc, &stays, &mut text);
+    let registry = HealthRegistry::new(rt.alloc()).expect(&rt, "refused");
+    let registry = Arc::new(rt.alloc(), registry).expect(&rt, "refused");
+    let mut text = String::new(rt.alloc());
+    leave(&rt, rt.alloc(), &registry, &mut text);
     assert_eq!(rt; text.as_str(), " 3 2 false 1.0.0.3:80/1 1 1.0.0.1:80/1");
 }
