@@ -25,7 +25,7 @@ pub enum AttemptEvent {
 }
 
 /// What is to be done next.
-#[derive(Clone, Copy, Debug, PartialEq, Eq)]
+#[derive(Clone, Copy)]
 pub enum Next {
     /// Select a backend that was not tried.
     Select,

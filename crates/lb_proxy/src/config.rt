@@ -23,7 +23,7 @@ use std::net::SocketAddr;
 use toml::{Table, Value};
 
 /// How a listener selects among the backends of its pool.
-#[derive(Clone, Copy, Debug, PartialEq, Eq)]
+#[derive(Clone, Copy)]
 pub enum Selection {
     /// In turn, by weight.
     RoundRobin,
@@ -38,12 +38,20 @@ pub enum Selection {
 }
 
 /// What a check of a backend does.
-#[derive(Drop)]
 pub enum CheckKind {
     /// It connects.
     Tcp,
     /// It asks this host for this path, and wants an answer with status 200.
     Http { host: String, path: String },
+}
+
+impl Drop for CheckKind {
+    fn drop(self) {
+        match self {
+            CheckKind::Tcp => {}
+            CheckKind::Http { host: _, path: _ } => {}
+        }
+    }
 }
 
 /// A check of backends. Times are in nanoseconds.
@@ -65,11 +73,35 @@ pub enum PoolSource {
 }
 
 /// A pool of backends, with a check of its own or the one of all.
-#[derive(Drop)]
 pub struct PoolConfig {
     pub name: String,
     pub source: PoolSource,
     pub check: Option<CheckConfig>,
+}
+
+impl PoolConfig {
+    /// Returns the name and where the backends come from.
+    pub fn into_parts(self) -> (String, PoolSource)
+        ensures name { result.0 ≡ self.name }
+        ensures source { result.1 ≡ self.source }
+    {
+        let PoolConfig {
+            name,
+            source,
+            check: _,
+        } = self;
+        (name, source)
+    }
+}
+
+impl Drop for PoolConfig {
+    fn drop(self) {
+        let PoolConfig {
+            name: _,
+            source: _,
+            check: _,
+        } = self;
+    }
 }
 
 /// A listener, and the pool by its number.

@@ -6,7 +6,7 @@ use std::fmt;
 use thiserror::Error;
 
 /// The part of a configuration that a fault is in. Numbers count from 0.
-#[derive(Clone, Copy, Debug, PartialEq, Eq)]
+#[derive(Clone, Copy)]
 pub enum Place {
     Top,
     Check,
@@ -117,7 +117,7 @@ pub enum Cause {
 }
 
 /// A fault: the part, the name in it, and what is wrong with its value.
-#[derive(Clone, Copy, Debug)]
+#[derive(Clone, Copy)]
 pub struct Fault<'t> {
     pub place: Place,
     pub field: &'t str,

@@ -11,7 +11,7 @@ use crate::section::Section;
 use std::alloc::Global;
 
 /// What a listener does with its connections.
-#[derive(Clone, Copy, Debug, PartialEq, Eq)]
+#[derive(Clone, Copy)]
 pub enum Mode {
     /// It relays the bytes of each to one backend.
     Tcp,

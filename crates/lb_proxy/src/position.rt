@@ -11,7 +11,7 @@ use std::str;
 use toml::Table;
 
 /// Why nothing is known of a text's first lines.
-#[derive(Clone, Copy, Debug, PartialEq, Eq)]
+#[derive(Clone, Copy)]
 pub enum Unread {
     /// They aren't UTF-8.
     NotText,

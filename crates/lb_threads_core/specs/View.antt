@@ -135,7 +135,7 @@ module _ {R : Type 0} (gives : R → Member → Member → Type 0) where
     abbrev pub RefusedUnder : (List Member → ViewValue → RegistryValue R → Type 0) → Type 0
     RefusedUnder Why = UnderBoth (λ members settings v x w y. Keeps v x w y × Why members v x)
 
-    -- The causes of an update's refusals: memory only where no other applies, or where the discovery was refused it.
+    -- The causes of an update's refusals: memory only where no other applies, or where the discovery may be refused it.
     pub record RefusedFor (e : Refusal) : Type 0 where
       pub last : e ≡ GenerationsExhausted → RefusedUnder (λ members v x. HasLast v)
       pub unknown : e ≡ NoSuch → RefusedUnder (λ members v x. LacksView gives v x)

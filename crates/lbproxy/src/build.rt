@@ -109,15 +109,27 @@ pub fn commons<R: Wait, N: Net<Stream = TcpStream> + Clock + Copy + Drop>(
 ) -> Result<Commons<ProxyCheck<N>>, Refusal> {
     let gate = Arc::new(alloc, SelectorRebuildGate::new(alloc)?)?;
     let shared = common(rt, net, alloc, &config.check, &gate)?;
+    let own = own_commons(rt, net, alloc, config.pools.as_slice(), &gate)?;
+    Ok(Commons { shared, own })
+}
+
+// For each pool, in order, what it has of its own: a registry where it has a check.
+fn own_commons<R: Wait, N: Net<Stream = TcpStream> + Clock + Copy + Drop>(
+    rt: &R,
+    net: N,
+    alloc: Global,
+    pools: &[PoolConfig],
+    gate: &Arc<SelectorRebuildGate>,
+) -> Result<Vec<Option<Common<ProxyCheck<N>>>>, Refusal> {
     let mut own = Vec::new(alloc);
-    for pool in config.pools.iter() {
+    for pool in pools {
         let common = match &pool.check {
-            Some(_) => Some(common(rt, net, alloc, &pool.check, &gate)?),
+            Some(_) => Some(common(rt, net, alloc, &pool.check, gate)?),
             None => None,
         };
         own.push(common)?;
     }
-    Ok(Commons { shared, own })
+    Ok(own)
 }
 
 // A registry with this check, where there is one, and the gate.
@@ -147,13 +159,25 @@ fn pools_of<R: Log + Wait + Copy + Drop, C: HealthCheck + Drop>(
     commons: &Commons<C>,
 ) -> Result<Vec<Pool<R, C>>, Refusal> {
     let mut made = Vec::new(alloc);
-    for PoolConfig { name, source, .. } in pools {
-        let common = commons.of(made.len());
-        let kinds = kinds_of(alloc, listens, made.len())?;
-        let backends = Arc::new(alloc, PoolBackends::new(alloc, source))?;
-        made.push(Pool::new(rt, alloc, name, backends, kinds, common)?)?;
+    for pool in pools {
+        let number = made.len();
+        let kinds = kinds_of(alloc, listens, number)?;
+        made.push(pool_of(rt, alloc, pool, kinds, commons.of(number))?)?;
     }
     Ok(made)
+}
+
+// A pool with these slots.
+fn pool_of<R: Log + Wait + Copy + Drop, C: HealthCheck + Drop>(
+    rt: R,
+    alloc: Global,
+    pool: PoolConfig,
+    kinds: Vec<Option<Kind>>,
+    common: &Common<C>,
+) -> Result<Pool<R, C>, Refusal> {
+    let (name, source) = pool.into_parts();
+    let backends = Arc::new(alloc, PoolBackends::new(alloc, source))?;
+    Pool::new(rt, alloc, name, backends, kinds, common)
 }
 
 /// Returns what the loops share.

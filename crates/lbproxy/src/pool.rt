@@ -221,11 +221,12 @@ fn group_of<R: Log + Wait + Drop, C: HealthCheck + Drop>(
     let discovery = DiscoverySource::Boxed(discovery);
     let backends = Backends::new_with_health_registry(rt, alloc, discovery, registry)?;
     let mut group = LoadBalancerGroup::from_backends_with_configs(rt, alloc, backends, kinds)?;
-    match group.with_rebuild_gate(rt, alloc, gate) {
-        Ok(()) => Ok(group),
-        Err(GateRefusal::NotMade(refusal)) => Err(refusal),
-        Err(GateRefusal::WasUpdated) => Err(Refusal::NoSuch),
-    }
+    let refusal = match group.with_rebuild_gate(rt, alloc, gate) {
+        Ok(()) => return Ok(group),
+        Err(GateRefusal::NotMade(refusal)) => refusal,
+        Err(GateRefusal::WasUpdated) => Refusal::NoSuch,
+    };
+    Err(refusal)
 }
 
 impl<

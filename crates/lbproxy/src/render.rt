@@ -110,82 +110,80 @@ pub fn json_text(alloc: Global, shown: &Shown) -> Result<Vec<u8>, AllocError> {
     }
 }
 
+// What the metrics of backends say of one.
+#[derive(Clone, Copy)]
+enum Measure {
+    Ready,
+    Live,
+    Total,
+    Requests,
+    Refused,
+    Sent,
+    Received,
+}
+
+// The metrics of backends, in order.
+const OF_BACKENDS: [(&str, MetricKind, Measure); 7] = [
+    ("lbproxy_backend_ready", MetricKind::Gauge, Measure::Ready),
+    (
+        "lbproxy_backend_connections",
+        MetricKind::Gauge,
+        Measure::Live,
+    ),
+    (
+        "lbproxy_backend_connections_total",
+        MetricKind::Counter,
+        Measure::Total,
+    ),
+    (
+        "lbproxy_backend_requests_total",
+        MetricKind::Counter,
+        Measure::Requests,
+    ),
+    (
+        "lbproxy_backend_refused_total",
+        MetricKind::Counter,
+        Measure::Refused,
+    ),
+    (
+        "lbproxy_backend_sent_bytes_total",
+        MetricKind::Counter,
+        Measure::Sent,
+    ),
+    (
+        "lbproxy_backend_received_bytes_total",
+        MetricKind::Counter,
+        Measure::Received,
+    ),
+];
+
 /// Returns the counts as Prometheus reads them.
 pub fn metrics_text(alloc: Global, shown: &Shown) -> Result<Vec<u8>, AllocError> {
     let mut body = Vec::new(alloc);
-    push_one(
-        &mut body,
-        "lbproxy_connections",
-        MetricKind::Gauge,
-        shown.live,
-    )?;
-    push_one(
-        &mut body,
-        "lbproxy_connections_total",
-        MetricKind::Counter,
-        shown.total,
-    )?;
-    push_one(
-        &mut body,
-        "lbproxy_requests_total",
-        MetricKind::Counter,
-        shown.requests,
-    )?;
-    push_one(
-        &mut body,
-        "lbproxy_unserved_total",
-        MetricKind::Counter,
-        shown.unserved,
-    )?;
-    push_each(
-        &mut body,
-        shown,
-        "lbproxy_backend_ready",
-        MetricKind::Gauge,
-        &|b: &ShownBackend| { u64::from(b.ready) },
-    )?;
-    push_each(
-        &mut body,
-        shown,
-        "lbproxy_backend_connections",
-        MetricKind::Gauge,
-        &|b: &ShownBackend| b.live,
-    )?;
-    push_each(
-        &mut body,
-        shown,
-        "lbproxy_backend_connections_total",
-        MetricKind::Counter,
-        &|b: &ShownBackend| b.total,
-    )?;
-    push_each(
-        &mut body,
-        shown,
-        "lbproxy_backend_requests_total",
-        MetricKind::Counter,
-        &|b: &ShownBackend| b.requests,
-    )?;
-    push_each(
-        &mut body,
-        shown,
-        "lbproxy_backend_refused_total",
-        MetricKind::Counter,
-        &|b: &ShownBackend| b.refused,
-    )?;
-    push_each(
-        &mut body,
-        shown,
-        "lbproxy_backend_sent_bytes_total",
-        MetricKind::Counter,
-        &|b: &ShownBackend| b.sent,
-    )?;
-    push_each(
-        &mut body,
-        shown,
-        "lbproxy_backend_received_bytes_total",
-        MetricKind::Counter,
-        &|b: &ShownBackend| b.received,
-    )?;
+    let of_proxy = [
+        ("lbproxy_connections", MetricKind::Gauge, shown.live),
+        (
+            "lbproxy_connections_total",
+            MetricKind::Counter,
+            shown.total,
+        ),
+        (
+            "lbproxy_requests_total",
+            MetricKind::Counter,
+            shown.requests,
+        ),
+        (
+            "lbproxy_unserved_total",
+            MetricKind::Counter,
+            shown.unserved,
+        ),
+    ];
+    for (name, kind, value) in &of_proxy {
+        push_one(&mut body, name, *kind, *value)?;
+    }
+    for (name, kind, measure) in &OF_BACKENDS {
+        push_each(&mut body, shown, name, *kind, *measure)?;
+    }
     Ok(body)
 }
 
@@ -201,15 +199,13 @@ fn push_one(
 }
 
 // A metric with a value for each backend.
-fn push_each<F: Fn(&ShownBackend) -> u64>(
+fn push_each(
     body: &mut Vec<u8>,
     shown: &Shown,
     name: &str,
     kind: MetricKind,
-    value: &F,
-) -> Result<(), AllocError>
-    requires { F.IsAlwaysCallable value.now }
-{
+    measure: Measure,
+) -> Result<(), AllocError> {
     push_head(body, name, kind)?;
     for pool in shown.pools.iter() {
         for backend in pool.backends.iter() {
@@ -223,8 +219,21 @@ fn push_each<F: Fn(&ShownBackend) -> u64>(
                     value: backend.address.as_str(),
                 },
             ];
-            push_value(body, name, &labels, value(backend))?;
+            push_value(body, name, &labels, measured(backend, measure))?;
         }
     }
     Ok(())
+}
+
+// What a metric says of the backend.
+fn measured(backend: &ShownBackend, measure: Measure) -> u64 {
+    match measure {
+        Measure::Ready => u64::from(backend.ready),
+        Measure::Live => backend.live,
+        Measure::Total => backend.total,
+        Measure::Requests => backend.requests,
+        Measure::Refused => backend.refused,
+        Measure::Sent => backend.sent,
+        Measure::Received => backend.received,
+    }
 }

@@ -6,14 +6,14 @@ use crate::proxy::Proxy;
 use crate::threads::{Service, Thread, start_checks, start_looking, start_loop, start_page};
 use lb_proxy::config::{CheckConfig, Config};
 use log::{Log, error, info};
-use pingora_load_balancing::background::{ShutdownWatch, shutdown_pair};
+use pingora_load_balancing::background::{ShutdownSignal, ShutdownWatch, shutdown_pair};
 use pingora_load_balancing::health_check::HealthCheck;
 use pingora_load_balancing::{HealthCheckService, Refusal};
 use std::alloc::Global;
 use std::io::Read;
 use std::net::{Net, TcpListener, TcpStream};
 use std::rt::Files;
-use std::sync::atomic::Ordering;
+use std::sync::atomic::{AtomicU64, Ordering};
 use std::sync::{Arc, Wait};
 use std::thread::Threads;
 use std::time::{Clock, Duration};
@@ -54,25 +54,121 @@ where
     C: HealthCheck + Drop + Send + Sync + 'static,
 {
     let alloc = rt.alloc();
-    let listeners = bind(net, alloc, config.listens.as_slice())?;
-    let services = services_of(alloc, commons, &config)?;
-    let page = page_of(net, &config)?;
+    let opened = open(net, alloc, commons, &config)?;
     let count = thread_count(&rt, config.limits.threads);
     let proxy = Arc::new(alloc, build(rt, alloc, config, commons)?)?;
     begin(&rt, alloc, &*proxy);
-    let (mut signal, watch) = shutdown_pair(alloc)?;
-    let helpers = start_helpers(rt, alloc, &proxy, &watch, services, page)?;
-    let loops = start_loops(rt, alloc, &proxy, listeners, count)?;
-    if until_eof {
-        wait_for_end(&rt);
-        info!(rt; "standard input ended: no more connections are taken");
-        proxy.ends.store(1, Ordering::SeqCst);
-    }
-    join_all(&rt, loops);
-    signal.send(true);
-    join_all(&rt, helpers);
-    info!(rt; "ended");
+    let running = opened.start(rt, alloc, &proxy, count)?;
+    end(&rt, &proxy.ends, running, until_eof);
     Ok(())
+}
+
+// What is there before a thread is started: the listeners, the services of checks, and the listener of the status page.
+struct Opened<C: HealthCheck + Drop> {
+    listeners: Vec<TcpListener>,
+    services: Vec<Service<C>>,
+    page: Option<TcpListener>,
+}
+
+impl<C: HealthCheck + Drop> Drop for Opened<C> {
+    fn drop(self) {
+        let Opened {
+            listeners: _,
+            services: _,
+            page: _,
+        } = self;
+    }
+}
+
+// The threads, and the signal that ends the helpers.
+#[derive(Drop)]
+struct Running {
+    signal: ShutdownSignal,
+    helpers: Vec<Thread>,
+    loops: Vec<Thread>,
+}
+
+// Opens what the configuration names.
+fn open<N, C>(
+    net: &N,
+    alloc: Global,
+    commons: &Commons<C>,
+    config: &Config,
+) -> Result<Opened<C>, anyhow::Error>
+where
+    N: Net<Listener = TcpListener, Stream = TcpStream>,
+    C: HealthCheck + Drop + Send + Sync,
+{
+    let listeners = bind(net, alloc, config.listens.as_slice())?;
+    let services = services_of(alloc, commons, config)?;
+    let page = page_of(net, config)?;
+    Ok(Opened {
+        listeners,
+        services,
+        page,
+    })
+}
+
+impl<C: HealthCheck + Drop + Send + Sync + 'static> Opened<C> {
+    // Starts the threads.
+    fn start<R>(
+        self,
+        rt: R,
+        alloc: Global,
+        proxy: &Arc<Proxy<R, C>>,
+        count: u64,
+    ) -> Result<Running, anyhow::Error>
+    where
+        R: Log
+            + Net
+            + Files
+            + Threads
+            + Wait
+            + Clock
+            + AllocGlobal
+            + Copy
+            + Drop
+            + Send
+            + Sync
+            + 'static,
+        R::Stream: Send + Sync + 'static,
+        R::Listener: Send + Sync + 'static,
+        R::File: Send + Sync + 'static,
+        R::Dir: Send + Sync + 'static,
+    {
+        let Opened {
+            listeners,
+            services,
+            page,
+        } = self;
+        let (signal, watch) = shutdown_pair(alloc)?;
+        let helpers = start_helpers(rt, alloc, proxy, &watch, services, page)?;
+        let loops = start_loops(rt, alloc, proxy, listeners, count)?;
+        Ok(Running {
+            signal,
+            helpers,
+            loops,
+        })
+    }
+}
+
+// Waits for the end, which comes with that of standard input where that is asked for, and ends the threads in order. The loops look at
+// `ends`.
+fn end<R: Log + Input + Threads>(rt: &R, ends: &AtomicU64, running: Running, until_eof: bool) {
+    let Running {
+        mut signal,
+        helpers,
+        loops,
+    } = running;
+    if until_eof {
+        wait_for_end(rt);
+        info!(rt; "standard input ended: no more connections are taken");
+        ends.store(1, Ordering::SeqCst);
+    }
+    join_all(rt, loops);
+    signal.send(true);
+    join_all(rt, helpers);
+    info!(rt; "ended");
 }
 
 // Waits until the threads have ended.
@@ -190,16 +286,31 @@ where
     R::Dir: Send + Sync + 'static,
     C: HealthCheck + Drop + Send + Sync + 'static,
 {
-    let mut threads = Vec::new(alloc);
-    for service in services {
-        threads.push(start_checks(rt, alloc, service, watch.try_clone()?)?)?;
-    }
+    let mut threads = start_services(rt, alloc, watch, services)?;
     if let Some(page) = page {
         let shared = Arc::try_clone(proxy)?;
         threads.push(start_page(rt, alloc, shared, watch.try_clone()?, page)?)?;
     }
     let shared = Arc::try_clone(proxy)?;
     threads.push(start_looking(rt, alloc, shared, watch.try_clone()?)?)?;
+    Ok(threads)
+}
+
+// Starts the threads that check.
+fn start_services<R, C>(
+    rt: R,
+    alloc: Global,
+    watch: &ShutdownWatch,
+    services: Vec<Service<C>>,
+) -> Result<Vec<Thread>, anyhow::Error>
+where
+    R: Log + Threads + Wait + Clock + Copy + Drop + Send + Sync + 'static,
+    C: HealthCheck + Drop + Send + Sync + 'static,
+{
+    let mut threads = Vec::new(alloc);
+    for service in services {
+        threads.push(start_checks(rt, alloc, service, watch.try_clone()?)?)?;
+    }
     Ok(threads)
 }
 

@@ -66,18 +66,28 @@ fn answer<R: Log + Wait + Copy + Drop, C: HealthCheck + Drop>(
     stream: &mut TcpStream,
     is_local: bool,
 ) -> io::Result<()> {
-    stream.set_nonblocking(false)?;
-    stream.set_read_timeout(Some(Duration::from_secs(LIMIT)))?;
-    stream.set_write_timeout(Some(Duration::from_secs(LIMIT)))?;
+    set_limits(stream)?;
     let head = read_head(alloc, stream)?;
     let page = match asked_of(head.as_slice()) {
-        Asked::Get(target) => page_of(rt, alloc, proxy, target)?,
-        Asked::Put(target) if is_local => flag_page(rt, alloc, proxy, target)?,
-        Asked::Put(_) => plain(alloc, REFUSED, "a flag is set from this machine alone\n")?,
-        Asked::Other => plain(alloc, ABSENT, "nothing is there\n")?,
+        Asked::Get(target) => page_of(rt, alloc, proxy, target),
+        Asked::Put(target) if is_local => flag_page(rt, alloc, proxy, target),
+        Asked::Put(_) => plain(alloc, REFUSED, "a flag is set from this machine alone\n"),
+        Asked::Other => plain(alloc, ABSENT, "nothing is there\n"),
     };
-    let length = page.body.len();
+    write_page(alloc, stream, &page?)
+}
+
+// Has each read and each write wait, but not for long.
+fn set_limits(stream: &TcpStream) -> io::Result<()> {
+    stream.set_nonblocking(false)?;
+    stream.set_read_timeout(Some(Duration::from_secs(LIMIT)))?;
+    stream.set_write_timeout(Some(Duration::from_secs(LIMIT)))
+}
+
+// Writes an answer.
+fn write_page(alloc: Global, stream: &mut TcpStream, page: &Page) -> io::Result<()> {
     let Page { status, kind, body } = page;
+    let length = body.len();
     let first = format!(in alloc; "HTTP/1.1 {status}\r\nContent-Type: {kind}\r\n")?;
     let last = format!(in alloc; "Content-Length: {length}\r\nConnection: close\r\n\r\n")?;
     stream.write_all(first.as_bytes())?;

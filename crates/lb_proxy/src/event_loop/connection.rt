@@ -6,9 +6,9 @@ use crate::event_loop::peer::Peer;
 use crate::event_loop::pump::{Turn, pump};
 use crate::relay::Relay;
 use mio::event::Event;
+use std::alloc::Global;
 
 /// A connection of a client.
-#[derive(Drop)]
 pub struct Connection {
     /// The number of the listener that took it.
     pub listener: usize,
@@ -25,9 +25,60 @@ pub struct Connection {
     pub active: u64,
 }
 
+impl Drop for Connection {
+    fn drop(self) {
+        let _ = self.into_relay();
+    }
+}
+
 impl Connection {
+    /// Returns a connection of which nothing is known but its client.
+    pub fn new(
+        alloc: Global,
+        listener: usize,
+        source: Vec<u8>,
+        client: Peer,
+        relay: Relay,
+        now: u64,
+    ) -> Connection {
+        Connection {
+            listener,
+            source,
+            client,
+            backend: None,
+            attempts: Attempts::new(alloc),
+            relay,
+            queued: false,
+            active: now,
+        }
+    }
+
+    /// Returns the relay, and drops all else.
+    pub fn into_relay(self) -> Relay {
+        let Connection {
+            listener: _,
+            source: _,
+            client: _,
+            backend: _,
+            attempts: _,
+            relay,
+            queued: _,
+            active: _,
+        } = self;
+        relay
+    }
+
+    /// Notes what an event reports of the client's end. While a backend is tried, that puts nothing off.
+    pub fn note_client(&mut self, event: &Event, now: u64) {
+        if !self.is_connecting() {
+            self.active = now;
+        }
+        self.client.note(event);
+    }
+
     /// Notes what an event reports of the backend's end.
-    pub fn note_backend(&mut self, event: &Event) {
+    pub fn note_backend(&mut self, event: &Event, now: u64) {
+        self.active = now;
         if let Some(backend) = &mut self.backend {
             backend.note(event);
         }

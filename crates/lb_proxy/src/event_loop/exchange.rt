@@ -62,7 +62,7 @@ fn begin_request<R: Log + Wait, U: Upstream>(
         &session.known,
         scene.settings.key(session.listener),
         &mut session.up.head,
-        &mut session.key,
+        &mut session.way.key,
     )?;
     let Some(request) = request else {
         return Ok(false);
@@ -81,7 +81,7 @@ pub fn await_answer<R: Log + Wait, U: Upstream>(
     session: &mut Session,
     spares: &mut Spares,
 ) -> Turn {
-    let Some(link) = links.of(session.link) else {
+    let Some(link) = links.of(session.way.link) else {
         return Turn::Over;
     };
     if session.down.fresh {
@@ -202,7 +202,7 @@ fn lose_backend<R: Log + Wait, U: Upstream>(
     links: &mut Links,
     session: &mut Session,
 ) -> Turn {
-    let is_used = match links.of(session.link) {
+    let is_used = match links.of(session.way.link) {
         Some(link) => link.is_used,
         None => false,
     };
@@ -213,7 +213,7 @@ fn lose_backend<R: Log + Wait, U: Upstream>(
     drop_link(links, session);
     session.down.reset(scene.alloc);
     session.up.repeat();
-    session.anew = true;
+    session.way.anew = true;
     session.enter(Phase::Reaching, scene.now);
     Turn::Ready
 }
@@ -228,7 +228,7 @@ pub fn pass_answer<R: Log + Wait, U: Upstream>(
     keeps_client: bool,
 ) -> Turn {
     let mut moved = false;
-    if let Some(link) = links.of(session.link) {
+    if let Some(link) = links.of(session.way.link) {
         let sent = send(scene, session, spares, &mut link.peer);
         if sent == Sent::Bad || sent == Sent::Gone {
             return Turn::Over;
@@ -244,7 +244,7 @@ pub fn pass_answer<R: Log + Wait, U: Upstream>(
     if session.down.cut && session.down.is_flushed() {
         return Turn::Over;
     }
-    let has_ended = session.down.body.is_done() || session.down.ended || session.link.is_none();
+    let has_ended = session.down.body.is_done() || session.down.ended || session.way.link.is_none();
     if has_ended && session.down.is_flushed() {
         return finish(scene, links, session, keeps_backend, keeps_client);
     }
@@ -289,7 +289,7 @@ fn finish<R: Log + Wait, U: Upstream>(
 ) -> Turn {
     end_request(scene, session);
     let is_sent = session.up.is_done();
-    match session.link.take() {
+    match session.way.link.take() {
         Some(number) if keeps_backend && is_sent && session.down.inbox.is_empty() => {
             links.keep(number, scene.now)
         }

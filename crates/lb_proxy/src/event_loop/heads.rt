@@ -7,6 +7,8 @@ use crate::http::response::read_response;
 use crate::http::write::{write_request, write_response};
 use crate::key::Key;
 use std::alloc::{AllocError, Global};
+use std::io;
+use std::net::{IpAddr, SocketAddr};
 
 /// A request whose head was read.
 #[derive(Clone, Copy)]
@@ -34,6 +36,27 @@ pub struct Answer {
 pub struct Client {
     pub octets: Vec<u8>,
     pub text: String,
+}
+
+impl Client {
+    /// Returns what a client with this address is known by.
+    pub fn of(alloc: Global, address: SocketAddr) -> io::Result<Client> {
+        let ip = address.ip();
+        Ok(Client {
+            octets: source_of(alloc, address)?,
+            text: format!(in alloc; "{ip}")?,
+        })
+    }
+}
+
+/// Returns the octets of an address.
+pub fn source_of(alloc: Global, address: SocketAddr) -> io::Result<Vec<u8>> {
+    let mut source = Vec::new(alloc);
+    match address.ip() {
+        IpAddr::V4(ip) => source.extend_from_slice(&ip.octets())?,
+        IpAddr::V6(ip) => source.extend_from_slice(&ip.octets())?,
+    }
+    Ok(source)
 }
 
 /// What is asked by a request that wasn't read.

@@ -15,7 +15,7 @@ use std::sync::Wait;
 impl Session {
     /// Begins to look for a backend for the request.
     pub fn seek(&mut self, alloc: Global, now: u64) {
-        self.attempts = Attempts::new(alloc);
+        self.way.attempts = Attempts::new(alloc);
         self.enter(Phase::Reaching, now);
     }
 }
@@ -27,7 +27,7 @@ pub fn reach<R: Log + Net + Wait, U: Upstream>(
     key: usize,
     session: &mut Session,
 ) -> Turn {
-    match session.attempts.next() {
+    match session.way.attempts.next() {
         Next::Select => select(scene, session),
         Next::Connect => connect(scene, links, key, session),
         Next::Relay => {
@@ -50,8 +50,8 @@ fn select<R: Log + Wait, U: Upstream>(scene: &Scene<'_, R, U>, session: &mut Ses
         scene.rt,
         scene.alloc,
         session.listener,
-        session.key.as_slice(),
-        &session.attempts,
+        session.way.key.as_slice(),
+        &session.way.attempts,
     );
     let event = match selected {
         Some(backend) => AttemptEvent::Selected(backend),
@@ -62,7 +62,7 @@ fn select<R: Log + Wait, U: Upstream>(scene: &Scene<'_, R, U>, session: &mut Ses
 
 // Goes on by an event of the attempts.
 fn step(session: &mut Session, event: AttemptEvent) -> Turn {
-    match session.attempts.step(event) {
+    match session.way.attempts.step(event) {
         Ok(()) => Turn::Ready,
         Err(_) => Turn::Over,
     }
@@ -75,7 +75,7 @@ fn connect<R: Log + Net + Wait, U: Upstream>(
     key: usize,
     session: &mut Session,
 ) -> Turn {
-    let Some(number) = session.link else {
+    let Some(number) = session.way.link else {
         return begin_connect(scene, links, key, session);
     };
     let Some(link) = links.get_mut(number) else {
@@ -99,26 +99,26 @@ fn begin_connect<R: Log + Net + Wait, U: Upstream>(
     key: usize,
     session: &mut Session,
 ) -> Turn {
-    let Some(backend) = session.attempts.backend() else {
+    let Some(backend) = session.way.attempts.backend() else {
         return Turn::Over;
     };
     let listener = session.listener;
-    if !session.anew {
+    if !session.way.anew {
         if let Some(number) = links.take(key, listener, backend, !session.asked.may_repeat) {
-            session.link = Some(number);
+            session.way.link = Some(number);
             count(scene, session, Happened::Resumed);
             count(scene, session, Happened::Asked);
-            session.counted = true;
+            session.way.counted = true;
             session.enter(Phase::Awaiting, scene.now);
             return Turn::Ready;
         }
     }
     let opened = links.open(scene, key, listener, backend);
     count(scene, session, Happened::Began);
-    session.counted = true;
+    session.way.counted = true;
     match opened {
         Ok(number) => {
-            session.link = Some(number);
+            session.way.link = Some(number);
             session.active = scene.now;
             Turn::Ready
         }
@@ -134,10 +134,10 @@ pub fn refuse<R: Log + Wait, U: Upstream>(
 ) -> Turn {
     drop_link(links, session);
     count(scene, session, Happened::Refused);
-    session.counted = false;
-    session.anew = false;
+    session.way.counted = false;
+    session.way.anew = false;
     session.active = scene.now;
-    if let Some(backend) = session.attempts.backend() {
+    if let Some(backend) = session.way.attempts.backend() {
         warn!(scene.rt; "{backend}: took no connection");
     }
     step(session, AttemptEvent::Refused)
@@ -145,20 +145,20 @@ pub fn refuse<R: Log + Wait, U: Upstream>(
 
 /// Notes that the backend answers: it took the request.
 pub fn has_reached(session: &mut Session) {
-    let _ = session.attempts.step(AttemptEvent::Connected);
+    let _ = session.way.attempts.step(AttemptEvent::Connected);
 }
 
 /// Drops the connection to the backend.
 pub fn drop_link(links: &mut Links, session: &mut Session) {
-    if let Some(number) = session.link.take() {
+    if let Some(number) = session.way.link.take() {
         links.drop_link(number);
     }
 }
 
 /// Counts the end of a request at its backend.
 pub fn end_request<R: Log + Wait, U: Upstream>(scene: &Scene<'_, R, U>, session: &mut Session) {
-    if session.counted {
-        session.counted = false;
+    if session.way.counted {
+        session.way.counted = false;
         let ended = Happened::Ended {
             sent: session.up.sent,
             received: session.down.received,
@@ -173,7 +173,7 @@ fn count<R: Log + Wait, U: Upstream>(
     session: &Session,
     happened: Happened,
 ) {
-    if let Some(backend) = session.attempts.backend() {
+    if let Some(backend) = session.way.attempts.backend() {
         let listener = session.listener;
         scene
             .proxy

@@ -32,8 +32,21 @@ pub enum Phase {
     Lingering,
 }
 
-/// A client's connection.
+/// The way of a request to a backend.
 #[derive(Drop)]
+pub struct Way {
+    /// What the selection for the request takes as its key.
+    pub key: Vec<u8>,
+    pub attempts: Attempts,
+    /// The number of the connection to the backend.
+    pub link: Option<usize>,
+    /// Whether that connection is to be a new one.
+    pub anew: bool,
+    /// Whether the request is among those that are counted at its backend.
+    pub counted: bool,
+}
+
+/// A client's connection.
 pub struct Session {
     /// The number of the listener that took it.
     pub listener: usize,
@@ -44,19 +57,41 @@ pub struct Session {
     pub up: Lane,
     pub down: Lane,
     pub asked: Asked,
-    /// What the selection for the request takes as its key.
-    pub key: Vec<u8>,
-    pub attempts: Attempts,
-    /// The number of the connection to the backend.
-    pub link: Option<usize>,
-    /// Whether that connection is to be a new one.
-    pub anew: bool,
-    /// Whether the request is among those that are counted at its backend.
-    pub counted: bool,
+    pub way: Way,
     /// Whether it waits for a turn without an event.
     pub queued: bool,
     /// When something last happened, in milliseconds.
     pub active: u64,
+}
+
+impl Drop for Session {
+    fn drop(self) {
+        let Session {
+            listener: _,
+            known: _,
+            client: _,
+            phase: _,
+            up: _,
+            down: _,
+            asked: _,
+            way: _,
+            queued: _,
+            active: _,
+        } = self;
+    }
+}
+
+impl Way {
+    // No way yet.
+    fn new(alloc: Global) -> Way {
+        Way {
+            key: Vec::new(alloc),
+            attempts: Attempts::new(alloc),
+            link: None,
+            anew: false,
+            counted: false,
+        }
+    }
 }
 
 impl Session {
@@ -70,11 +105,7 @@ impl Session {
             up: Lane::new(alloc),
             down: Lane::new(alloc),
             asked: NOTHING,
-            key: Vec::new(alloc),
-            attempts: Attempts::new(alloc),
-            link: None,
-            anew: false,
-            counted: false,
+            way: Way::new(alloc),
             queued: false,
             active: now,
         }
@@ -125,8 +156,15 @@ impl Session {
         self.asked = NOTHING;
         self.up.begin(alloc);
         self.down.reset(alloc);
-        self.anew = false;
+        self.way.anew = false;
         self.enter(Phase::Reading, now);
+    }
+
+    /// Gives back the buffers, whatever they hold.
+    pub fn empty(&mut self, alloc: Global, spares: &mut Spares) {
+        self.up.reset(alloc);
+        self.down.reset(alloc);
+        self.release(alloc, spares);
     }
 
     /// Gives back the buffers that hold nothing.

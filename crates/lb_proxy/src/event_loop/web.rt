@@ -236,8 +236,6 @@ impl Web {
         scene.proxy.count(scene.rt, Counted::Freed);
         end_request(scene, &mut session);
         drop_link(&mut self.links, &mut session);
-        session.up.reset(scene.alloc);
-        session.down.reset(scene.alloc);
-        session.release(scene.alloc, &mut self.spares);
+        session.empty(scene.alloc, &mut self.spares);
     }
 }

@@ -21,7 +21,7 @@ const EXTENSION_LIMIT: u64 = 4096;
 const TRAILER_LIMIT: u64 = 65536;
 
 /// The bytes are no body.
-#[derive(Clone, Copy, Debug, PartialEq, Eq)]
+#[derive(Clone, Copy)]
 pub struct BadBody;
 
 /// What comes next of the frame around what a body in chunks says.

@@ -1,7 +1,7 @@
 //! Why a message isn't passed on, and the status that its sender or the client gets.
 
 /// Why a message isn't passed on.
-#[derive(Clone, Copy, Debug, PartialEq, Eq)]
+#[derive(Clone, Copy, PartialEq, Eq)]
 pub enum Fault {
     /// The request is malformed, or can be understood in two ways.
     BadRequest,

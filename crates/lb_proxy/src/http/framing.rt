@@ -5,7 +5,7 @@ ghost use Rattle.lb_proxy.specs.Http.Framing.{length_value, statement_of, stated
 use crate::http::field::{Field, Found, find_one, same_name};
 
 /// How a body ends.
-#[derive(Clone, Copy, Debug, PartialEq, Eq)]
+#[derive(Clone, Copy)]
 pub enum Framing {
     /// There is no body.
     Nothing,
@@ -18,7 +18,7 @@ pub enum Framing {
 }
 
 /// A version of HTTP.
-#[derive(Clone, Copy, Debug, PartialEq, Eq)]
+#[derive(Clone, Copy, PartialEq, Eq)]
 pub enum Version {
     Http10,
     Http11,

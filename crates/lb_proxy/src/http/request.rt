@@ -41,7 +41,7 @@ pub struct RequestHead<'a> {
 }
 
 /// What has to be known of a request until its answer is passed on.
-#[derive(Clone, Copy, Debug)]
+#[derive(Clone, Copy)]
 pub struct Asked {
     /// Whether the head of an answer is asked for alone.
     pub is_head: bool,
