@@ -37,10 +37,12 @@ use lb_select_base::moments::MomentSource;
 use lb_select_base::refusal::Refusal;
 use lb_select_base::walk::BackendSelection;
 use lb_threads_core::backends::{Backends, BackendsParts, registered_view};
+use lb_threads_core::changes::ChangeCounts;
 use lb_threads_core::generators::SharedGenerator;
 use lb_threads_core::lanes::Lanes;
 use lb_threads_core::loads::SharedLoads;
 use lb_threads_core::lock::KeyedLock;
+use lb_threads_core::marks::flag_of;
 use lb_threads_core::numbers::KeyedNumbers;
 use lb_threads_core::owner::ViewOwner;
 use lb_threads_core::registry::{HealthRegistry, put_registry, take_registry};
@@ -78,6 +80,7 @@ struct Places<S: BackendSelection, D, R: KeyRule + Drop, C> {
     lanes: Lanes<KeptShown<S, D, R, C>>,
     generator: SharedGenerator,
     loads: Arc<SharedLoads>,
+    flags: ChangeCounts,
     alloc: Global,
 }
 
@@ -99,8 +102,9 @@ pub struct Balancing<S: BackendSelection, D, R: KeyRule + Drop, C> {
     loads: Arc<SharedLoads>,
     // For what `get_backend` may have to show anew.
     alloc: Global,
-    // Counts what may have changed what is ready, but for the registry's own changes.
+    // Counts what may have changed what is ready, but for the registry's own changes; and by backend, what may have changed its flag.
     pub(crate) changes: AtomicU64,
+    pub(crate) flags: ChangeCounts,
     seeds: AtomicU64,
 }
 
@@ -119,6 +123,7 @@ impl<S: BackendSelection, D: Drop, R: KeyRule + Drop, C: Drop> Drop for Balancin
             loads: _,
             alloc: _,
             changes: _,
+            flags: _,
             seeds: _,
         } = self;
     }
@@ -216,6 +221,7 @@ impl<
             lanes,
             generator,
             loads,
+            flags,
             alloc,
         } = places;
         Balancing {
@@ -231,6 +237,7 @@ impl<
             loads,
             alloc,
             changes: AtomicU64::new(0),
+            flags,
             seeds: AtomicU64::new(1),
         }
     }
@@ -312,6 +319,7 @@ impl<
             self.serving.put(held);
             return Some((members, settings));
         }
+        let has_settings = !settings.is_empty();
         let registries = self.origin.registry();
         let mut cells = take_registry(registries, rt);
         held.value
@@ -320,6 +328,9 @@ impl<
         put_registry(registries, cells);
         self.serving.put(held);
         self.changes.fetch_add(1, SeqCst);
+        if has_settings {
+            self.flags.note_all();
+        }
         None
     }
 
@@ -558,6 +569,7 @@ impl<
         held.value.served.set_enable(backend, enabled);
         self.serving.put(held);
         self.changes.fetch_add(1, SeqCst);
+        self.flags.note(flag_of(backend));
         self.judge_all(rt);
     }
 
@@ -738,6 +750,7 @@ fn places_over<S: BackendSelection, D, R: KeyRule + Drop, C: HealthCheck + Drop,
         lanes,
         generator,
         loads,
+        flags: ChangeCounts::new(alloc)?,
         alloc,
     })
 }

@@ -1,5 +1,5 @@
 //! Readiness at the moment when a selection asks for it: the word of its candidate says it, and where that isn't of now, view and registry
-//! do, under their locks. So a flip or a flag costs each backend one question, whoever made it.
+//! do, under their locks. So a flip or a flag costs one question, whoever made it.
 ghost use Rattle.std.specs.Prelude.{◌≡◌, IfErr, IfSome, OnOk};
 ghost use Rattle.std.specs.Arc.{arc_value};
 ghost use Rattle.lb_rebuild_core.specs.GroupCalls.{AcceptsBy};
@@ -16,9 +16,11 @@ use lb_health_view::discovery::ServiceDiscovery;
 use lb_select_base::backend::Backend;
 use lb_select_base::refusal::Refusal;
 use lb_select_base::walk::BackendSelection;
+use lb_threads_core::changes::Stamp;
 use lb_threads_core::generators::SharedGenerator;
-use lb_threads_core::ready_words::{CHANGES, Said};
-use lb_threads_core::registry::{put_registry, take_registry};
+use lb_threads_core::marks::flag_of;
+use lb_threads_core::ready_words::Said;
+use lb_threads_core::registry::{flips_of, put_registry, take_registry};
 use std::alloc::Global;
 use std::sync::Wait;
 use std::sync::atomic::Ordering::SeqCst;
@@ -29,14 +31,12 @@ impl<
     R: KeyRule + Drop,
     C: HealthCheck + Drop,
 > Balancing<S, D, R, C> {
-    // How often what is ready may have changed; of a balancer that left its registry, a count that no word has, since others' calls may
-    // then remove its cells.
-    pub(crate) fn changes_so_far(&self) -> u64 {
-        let own = self.changes.load(SeqCst);
-        if own >= LEFT {
-            return CHANGES;
-        }
-        own.wrapping_add(self.origin.registry().changes()) % CHANGES
+    // Whether what was found of a backend is so now. Of a balancer that left its registry that isn't known, since others' calls may then
+    // remove its cells.
+    #[inline]
+    pub(crate) fn is_of_now(&self, stamp: Stamp) -> bool {
+        self.changes.load(SeqCst) < LEFT
+            && stamp.is_of_now(flips_of(self.origin.registry()), &self.flags)
     }
 
     // Whether a backend is ready for selections in what is kept, by its word where that is of now. Where another generation is served
@@ -50,15 +50,14 @@ impl<
         requires { IsKept R.gives self.now kept.now.shown kept.now.ready }
         ensures { IsReadyIn R.gives self.now (arc_value kept.now.shown) backend.now result }
     {
-        let changes = self.changes_so_far();
         let said = kept.said(backend);
         match said {
-            Some(said) if said.changes == changes => said.ready,
-            _ => self.judge_again(rt, kept, backend, said, changes),
+            Some(said) if self.is_of_now(said.stamp) => said.ready,
+            _ => self.judge_again(rt, kept, backend, said),
         }
     }
 
-    // Asks for a backend, and notes what was found as of this change; or returns what its word says.
+    // Asks for a backend, and notes what was found; or returns what its word says.
     #[cold]
     #[inline(never)]
     fn judge_again<W: Wait>(
@@ -67,20 +66,14 @@ impl<
         kept: &KeptShown<S, D, R, C>,
         backend: &Backend,
         said: Option<Said>,
-        changes: u64,
     ) -> bool
         requires kept { IsKept R.gives self.now kept.now.shown kept.now.ready }
         requires said { IfSome said (λ s. JudgedIn R.gives self.now (arc_value kept.now.shown).generation backend.now s.ready) }
         ensures { IsReadyIn R.gives self.now (arc_value kept.now.shown) backend.now result }
     {
-        if let Some(ready) = self.ask_ready(rt, kept.generation(), backend) {
-            let said = Said {
-                ready,
-                is_newest: true,
-                changes,
-            };
-            kept.note(backend, said);
-            return ready;
+        if let Some(found) = self.ask(rt, kept.generation(), backend) {
+            kept.note(backend, found);
+            return found.ready;
         }
         match said {
             Some(said) => said.ready,
@@ -88,9 +81,9 @@ impl<
         }
     }
 
-    // Whether view and registry say that a backend is ready, where this generation is served.
-    fn ask_ready<W: Wait>(&self, rt: &W, generation: u64, backend: &Backend) -> Option<bool>
-        ensures { IfSome result (JudgedIn R.gives self.now generation backend.now) }
+    // Whether view and registry say that a backend is ready, and as of which changes, where this generation is served.
+    fn ask<W: Wait>(&self, rt: &W, generation: u64, backend: &Backend) -> Option<Said>
+        ensures { IfSome result (λ said. JudgedIn R.gives self.now generation backend.now said.ready) }
     {
         let _key = &self.origin;
         let held = self.serving.take(rt);
@@ -100,10 +93,16 @@ impl<
         }
         let registries = self.origin.registry();
         let cells = take_registry(registries, rt);
+        let cell = held.value.served.cell_of(backend).unwrap_or(0);
+        let stamp = Stamp::new(flips_of(registries), cell, &self.flags, flag_of(backend));
         let ready = held.value.served.ready(&cells.value, backend);
         put_registry(registries, cells);
         self.serving.put(held);
-        Some(ready)
+        Some(Said {
+            ready,
+            is_newest: true,
+            stamp,
+        })
     }
 
     // Judges each member that has a word. It is for the thread that updates, sets a flag or checks, so that requests seldom have to ask.

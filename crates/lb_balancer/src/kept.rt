@@ -1,6 +1,6 @@
 //! What a balancer keeps in its lanes, and selections in it without a lock. A selection finds out by one load whether its lane has the
-//! generation that is served now, and by three whether a backend's word is of now: those of the word and of the changes of balancer and
-//! registry.
+//! generation that is served now, and by four whether a backend's word is of now: those of the word, of the changes of its flag and of its
+//! cell, and of whether the balancer left its registry.
 ghost use Rattle.std.specs.Prelude.{◌≡◌, IfErr, IfOk, IfSome, OnOk};
 ghost use Rattle.std.specs.Arc.{arc_value};
 ghost use Rattle.lb_rebuild_core.specs.GroupCalls.{AcceptsBy};
@@ -152,14 +152,13 @@ impl<
     pub(crate) fn ready_in_lane(&self, backend: &Backend) -> Option<bool>
         ensures { IfSome result (JudgedBy R.gives self.now backend.now) }
     {
-        let changes = self.changes_so_far();
         let seen = self.lanes.read(1, &self.origin)?;
         let kept = seen.value()?;
         if !self.is_served(kept.generation()) {
             return None;
         }
         let said = kept.said(backend)?;
-        if said.changes == changes {
+        if self.is_of_now(said.stamp) {
             Some(said.ready)
         } else {
             None

@@ -204,6 +204,13 @@ impl<S: BackendSelection> ServedView<S> {
         self.view.ready(registry, backend)
     }
 
+    /// Returns the number of the cell that a backend has in the newest membership, if it has one there.
+    ///
+    /// It is for who counts changes by cell. It takes no memory.
+    pub fn cell_of(&self, backend: &Backend) -> Option<u64> {
+        self.view.cell_in(self.view.generation(), backend)
+    }
+
     /// Enables or disables a backend that the newest membership lists, by identity; another is left alone.
     ///
     /// It takes no memory.

@@ -329,6 +329,17 @@ impl ViewCore {
         }
     }
 
+    /// Returns the number of the cell that a backend has in the snapshot of this generation, if it has one there.
+    ///
+    /// It is for who counts changes by cell. It takes no memory.
+    pub fn cell_in(&self, generation: u64, backend: &Backend) -> Option<u64> {
+        if self.current.generation == generation {
+            return self.current.cells.get(backend);
+        }
+        let place = place_of(self.earlier.as_slice(), generation)?;
+        self.earlier[place].cells.get(backend)
+    }
+
     // Whether a backend is ready in one of the snapshots.
     fn is_ready<R: KeyRule + Drop>(
         &self,

@@ -316,6 +316,13 @@ impl<S: BackendSelection> GroupCore<S> {
         self.view.ready_in(registry, reader.generation(), backend)
     }
 
+    /// Returns the number of the cell that a backend has in the snapshot of the generation that a reader entered, if it has one there.
+    ///
+    /// It is for who counts changes by cell. It takes no memory.
+    pub fn cell_for(&self, reader: &Reader<S>, backend: &Backend) -> Option<u64> {
+        self.view.cell_in(reader.generation(), backend)
+    }
+
     /// Returns the next ticket of the selector that a reader is in, as a group without a view does: each selector has a counter of its
     /// own, which its readers go on in while it is retired. It takes no memory.
     pub fn ticket(&mut self, reader: &Reader<S>) -> u64

@@ -5,6 +5,7 @@
 #![tactic(auto)]
 
 pub mod backends;
+pub mod changes;
 pub mod clock;
 pub mod gate;
 pub mod generators;

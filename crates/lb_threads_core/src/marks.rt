@@ -36,11 +36,21 @@ fn number_of(address: &SocketAddr) -> u64 {
     }
 }
 
-// The first place of a backend among so many.
-fn first_place(backend: &Backend, count: usize) -> usize {
+// A number of a backend's identity, whose high bits few others have.
+fn spread_of(backend: &Backend) -> u64 {
     let (address, weight) = backend.identity();
     let number = number_of(address).wrapping_add((weight as u64) << 48);
-    let spread = number.wrapping_mul(SPREAD);
+    number.wrapping_mul(SPREAD)
+}
+
+/// Returns the number of a backend's flag, by its identity.
+pub fn flag_of(backend: &Backend) -> u64 {
+    spread_of(backend) >> 56
+}
+
+// The first place of a backend among so many.
+fn first_place(backend: &Backend, count: usize) -> usize {
+    let spread = spread_of(backend);
     ((spread >> 32).wrapping_mul(count as u64) >> 32) as usize
 }
 

@@ -1,10 +1,11 @@
 //! Which backends are ready, as words that threads share: one for each backend, which says whether it is ready, whether that was found of
-//! the newest membership, and as of which change. A selection loads the word of its candidate, and asks where something changed since; so a
-//! flip or a flag costs each backend one question, and no request copies a membership.
+//! the newest membership, and as of which changes. A selection loads the word of its candidate, and asks where its cell or its flag changed
+//! since; so a flip or a flag costs one question, and no request copies a membership.
 ghost use Rattle.std.specs.Prelude.{◌≡◌, ◌%◌, Bool, IfOk, IfSome, true};
 ghost use Rattle.lb_select_base.specs.Backends.{Member, same_member};
 ghost use Rattle.lb_threads_core.specs.ReadyWords.{said_as};
 
+use crate::changes::Stamp;
 use crate::marks::{Marks, marks_of, place_of};
 use crate::word_rule::WordRule;
 use crate::words::KeyedWords;
@@ -24,8 +25,8 @@ const IS_UNREADY_NOW: u64 = 6;
 
 const IS_READY_NOW: u64 = 7;
 
-/// Changes are counted modulo this, so that a word has place for the count.
-pub const CHANGES: u64 = 0x2000_0000_0000_0000;
+// A stamp is below this, so that a word has room for it.
+const STAMPS: u64 = 0x2000_0000_0000_0000;
 
 /// What is known of a backend that a word says to be ready, or not to be.
 pub trait ReadyRule<K> {
@@ -56,12 +57,12 @@ impl<K, I: ReadyRule<K>> WordRule<Subject<K>> for SaidBy<I> {
     ghost holds = { λ subject i w. SaysAt (I.told subject.of.value) subject.marks.value.items i w };
 }
 
-/// Whether a backend is ready, whether that was found of the newest membership, and as of which change.
+/// Whether a backend is ready, whether that was found of the newest membership, and as of which changes.
 #[derive(Clone, Copy)]
 pub struct Said {
     pub ready: bool,
     pub is_newest: bool,
-    pub changes: u64,
+    pub stamp: Stamp,
 }
 
 /// Which backends are ready, as words. Contracts see what the words are of.
@@ -143,7 +144,7 @@ fn said_by(word: u64) -> Option<Said>
     Some(Said {
         ready,
         is_newest,
-        changes: word / 8,
+        stamp: Stamp::of_bits(word / 8),
     })
 }
 
@@ -151,11 +152,11 @@ fn said_by(word: u64) -> Option<Said>
 fn word_of(said: Said) -> u64
     ensures { result % 8 ≡ said_as said.ready said.is_newest }
 {
-    let turn = said.changes % CHANGES * 8;
+    let stamp = said.stamp.bits() % STAMPS * 8;
     match (said.ready, said.is_newest) {
-        (true, true) => turn + IS_READY_NOW,
-        (false, true) => turn + IS_UNREADY_NOW,
-        (true, false) => turn + IS_READY,
-        (false, false) => turn + IS_UNREADY,
+        (true, true) => stamp + IS_READY_NOW,
+        (false, true) => stamp + IS_UNREADY_NOW,
+        (true, false) => stamp + IS_READY,
+        (false, false) => stamp + IS_UNREADY,
     }
 }

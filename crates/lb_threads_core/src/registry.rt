@@ -14,6 +14,7 @@ ghost use Rattle.lb_select_base.specs.declared.refusal.Refusal.{Refusal};
 ghost use Rattle.lb_threads_core.specs.Internal.Leaving.{EndsSnapshots, HaveLeft, IsNoteOf};
 ghost use Rattle.lb_threads_core.specs.Registry.{IsRegistryOf, SeenIn, UnderRegistry};
 
+use crate::changes::ChangeCounts;
 use crate::keyed::NoRule;
 use crate::lock::{KeyedLock, TakenValue};
 use crate::owner::{ViewNote, ViewOwner, take_gone};
@@ -56,8 +57,9 @@ pub type HeldRegistry<R> = TakenValue<Registry<R>, Snapshot<Registry<R>>>;
 pub struct HealthRegistry<R: KeyRule + Drop = Rule<NoRule>, C = BoxedCheck> {
     lock: KeyedLock<Registry<R>, Snapshot<Registry<R>>, OfRegistry>,
     check: OnceLock<C>,
-    // Counts the cells that flipped.
+    // Counts the verdicts that flipped a cell, and those that flipped each.
     changes: AtomicU64,
+    flips: ChangeCounts,
     // The notes of the views that have owners.
     notes: Mutex<Vec<Arc<ViewNote>>>,
     // Whether an owner was dropped since the notes were looked through.
@@ -70,6 +72,7 @@ impl<R: KeyRule + Drop, C: Drop> Drop for HealthRegistry<R, C> {
             lock: _,
             check: _,
             changes: _,
+            flips: _,
             notes: _,
             some_gone: _,
         } = self;
@@ -95,10 +98,12 @@ impl<R: KeyRule + Drop, C: HealthCheck + Drop> HealthRegistry<R, C> {
         let key = Snapshot::of(&registry);
         let lock = KeyedLock::new(alloc, registry, &key)?;
         let some_gone = Arc::new(alloc, AtomicBool::new(false))?;
+        let flips = ChangeCounts::new(alloc)?;
         Ok(HealthRegistry {
             lock,
             check: OnceLock::new(),
             changes: AtomicU64::new(0),
+            flips,
             notes: Mutex::new(Vec::new(alloc)),
             some_gone,
         })
@@ -263,6 +268,7 @@ impl<R: KeyRule + Drop, C: HealthCheck + Drop> HealthRegistry<R, C> {
         let answer = self.hand_over(rt, cell, verdict, threshold);
         if let Ok(true) = answer {
             self.changes.fetch_add(1, SeqCst);
+            self.flips.note(cell);
         }
         answer
     }
@@ -388,6 +394,14 @@ pub fn put_registry<R: KeyRule + Drop, C: HealthCheck + Drop>(
     requires here { held.seat.table_id ≡ registry.now.lock }
 {
     registry.put(held);
+}
+
+/// Returns the counts of the verdicts that flipped a cell, by the cell's number.
+///
+/// It is for the crates of this library: the crate that users take doesn't pass it on.
+#[inline]
+pub fn flips_of<R: KeyRule + Drop, C>(registry: &HealthRegistry<R, C>) -> &ChangeCounts {
+    &registry.flips
 }
 
 // Marks the views whose owners are gone for removal, and releases their cells.

@@ -135,6 +135,6 @@ impl<S: BackendSelection, R: KeyRule + Drop, C: HealthCheck + Drop> SharedGroup<
         held.value.founded();
         held.value.set_enable(backend, enabled);
         self.lock.put(held);
-        self.note_change();
+        self.note_flag(backend);
     }
 }

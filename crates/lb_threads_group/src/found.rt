@@ -14,10 +14,12 @@ use lb_health_core::keys::KeyRule;
 use lb_rebuild_core::retired::Reader;
 use lb_select_base::backend::Backend;
 use lb_select_base::walk::BackendSelection;
+use lb_threads_core::changes::Stamp;
 use lb_threads_core::loads::LoadWords;
 use lb_threads_core::lock::KeyedLock;
-use lb_threads_core::ready_words::{CHANGES, ReadyRule, ReadyWords, Said};
-use lb_threads_core::registry::{HealthRegistry, put_registry, take_registry};
+use lb_threads_core::marks::flag_of;
+use lb_threads_core::ready_words::{ReadyRule, ReadyWords, Said};
+use lb_threads_core::registry::{HealthRegistry, flips_of, put_registry, take_registry};
 use lb_threads_core::rule::LockRule;
 use std::alloc::{AllocError, Global};
 use std::collections::BTreeSet;
@@ -200,19 +202,21 @@ impl<S: BackendSelection, R: KeyRule + Drop, C> SharedGroup<S, R, C> {
 }
 
 impl<S: BackendSelection, R: KeyRule + Drop, C: HealthCheck + Drop> SharedGroup<S, R, C> {
-    // How often what is ready may have changed; of a group that is cancelled or dropped, a count that no word has, since others' calls may
-    // then remove its cells.
-    pub(crate) fn changes_so_far(&self) -> u64 {
-        if self.marks.is_closed.load(SeqCst) {
-            return CHANGES;
-        }
-        let registry = self.registry.changes();
-        self.marks.changes.load(SeqCst).wrapping_add(registry) % CHANGES
+    // Whether what was found of a backend is so now. Of a group that is cancelled or dropped that isn't known, since others' calls may then
+    // remove its cells.
+    fn is_of_now(&self, stamp: Stamp) -> bool {
+        !self.marks.is_closed.load(SeqCst)
+            && stamp.is_of_now(flips_of(&*self.registry), &self.marks.flags)
     }
 
-    // Notes that what is ready may have changed, but for the registry.
-    pub(crate) fn note_change(&self) {
-        self.marks.changes.fetch_add(1, SeqCst);
+    // Notes that this backend's flag may have changed.
+    pub(crate) fn note_flag(&self, backend: &Backend) {
+        self.marks.flags.note(flag_of(backend));
+    }
+
+    // Notes that each flag may have changed.
+    pub(crate) fn note_flags(&self) {
+        self.marks.flags.note_all();
     }
 
     // The lock of a slot's words.
@@ -345,11 +349,10 @@ impl<S: BackendSelection, R: KeyRule + Drop, C: HealthCheck + Drop> SharedGroup<
         requires own { reader.now.group ≡ self.now.core.group.id }
         ensures { FoundAt R.gives self.now reader.now.generation backend.now result.ready result.is_newest }
     {
-        let changes = self.changes_so_far();
         match found.ready.said(backend) {
-            Some(said) if said.changes == changes => said,
+            Some(said) if self.is_of_now(said.stamp) => said,
             _ => {
-                let said = self.ask_as_of(rt, changes, reader, backend);
+                let said = self.ask(rt, reader, backend);
                 found.ready.note(backend, said);
                 said
             }
@@ -361,19 +364,14 @@ impl<S: BackendSelection, R: KeyRule + Drop, C: HealthCheck + Drop> SharedGroup<
         requires { reader.now.group ≡ self.now.core.group.id }
         ensures { ReadyUnder R.gives self.now reader.now backend.now result }
     {
-        self.ask_as_of(rt, CHANGES, reader, backend).ready
+        self.ask(rt, reader, backend).ready
     }
 
-    // Whether group and registry say that a backend is ready for a reader, and whether it is in the newest generation, as of this change.
+    // Whether group and registry say that a backend is ready for a reader, and whether that is in the newest generation; and as of which
+    // changes. One that another thread made but hasn't counted yet makes the finding old, no more.
     #[cold]
     #[inline(never)]
-    fn ask_as_of<W: Wait>(
-        &self,
-        rt: &W,
-        changes: u64,
-        reader: &Reader<S>,
-        backend: &Backend,
-    ) -> Said
+    fn ask<W: Wait>(&self, rt: &W, reader: &Reader<S>, backend: &Backend) -> Said
         requires { reader.now.group ≡ self.now.core.group.id }
         ensures { FoundAt R.gives self.now reader.now.generation backend.now result.ready result.is_newest }
     {
@@ -383,6 +381,9 @@ impl<S: BackendSelection, R: KeyRule + Drop, C: HealthCheck + Drop> SharedGroup<
         held.value.founded();
         let cells = take_registry(registries, rt);
         let group = held.value.core();
+        let cell = group.cell_for(reader, backend).unwrap_or(0);
+        let flips = flips_of(registries);
+        let stamp = Stamp::new(flips, cell, &self.marks.flags, flag_of(backend));
         let ready = group.ready(reader, &cells.value, backend);
         let is_newest = group.newest() == reader.generation();
         put_registry(registries, cells);
@@ -390,7 +391,7 @@ impl<S: BackendSelection, R: KeyRule + Drop, C: HealthCheck + Drop> SharedGroup<
         Said {
             ready,
             is_newest,
-            changes,
+            stamp,
         }
     }
 }

@@ -23,6 +23,7 @@ use lb_select_base::backend::Backend;
 use lb_select_base::moments::MomentSource;
 use lb_select_base::refusal::Refusal;
 use lb_select_base::walk::BackendSelection;
+use lb_threads_core::changes::ChangeCounts;
 use lb_threads_core::gate::SelectorRebuildGate;
 use lb_threads_core::generators::SharedGenerator;
 use lb_threads_core::keyed::NoRule;
@@ -70,8 +71,8 @@ pub(crate) struct Marks {
     let_go: AtomicBool,
     // Whether the lanes are used no more.
     pub(crate) is_closed: AtomicBool,
-    // Counts what may have changed what is ready, but for the registry's own changes.
-    pub(crate) changes: AtomicU64,
+    // Counts what may have changed the flag of a backend.
+    pub(crate) flags: ChangeCounts,
     // How many threads asked for lanes of their own, wrapping.
     pub(crate) readers: AtomicU64,
 }
@@ -181,6 +182,7 @@ impl<S: BackendSelection, R: KeyRule + Drop, C: HealthCheck + Drop> SharedGroup<
         let lanes = lanes_of(alloc, board.word_count() - 1, &site, &generator)?;
         let words = words_of(alloc, board.word_count() - 1, &site)?;
         let numbers = numbers_of(alloc, board.word_count() - 1, &key)?;
+        let flags = ChangeCounts::new(alloc)?;
         let lock = KeyedLock::new(alloc, watched, &key)?;
         Ok(SharedGroup {
             lock,
@@ -194,7 +196,7 @@ impl<S: BackendSelection, R: KeyRule + Drop, C: HealthCheck + Drop> SharedGroup<
             marks: Marks {
                 let_go: AtomicBool::new(false),
                 is_closed: AtomicBool::new(false),
-                changes: AtomicU64::new(0),
+                flags,
                 readers: AtomicU64::new(0),
             },
             site,

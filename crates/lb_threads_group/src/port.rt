@@ -185,7 +185,7 @@ impl<'g, 'r, 'f, S: BackendSelection, R: KeyRule + Drop, C: HealthCheck + Drop, 
         group.note_all(&held.value);
         group.lock.put(held);
         if has_settings {
-            group.note_change();
+            group.note_flags();
         }
         group.wake_if(brings_orders(&told));
         told

@@ -10,6 +10,7 @@ use pingora_load_balancing::port::{GroupPort, LockedPort, TakesBack, Turn};
 use pingora_load_balancing::selection::BackendSelection;
 use pingora_load_balancing::{Backend, HealthRegistry, LoadBalancerGroup, Refusal, SharedGroup};
 use std::alloc::Global;
+use std::collections::BTreeSet;
 use std::process::Abort;
 use std::sync::Wait;
 use std::sync::atomic::AtomicU64;
@@ -231,8 +232,28 @@ fn selects_as_the_holder<
     selects
 }
 
-/// A selection takes no lock where nothing changed since the last one, nor does a reading of what is ready: they go on while this very
-/// thread holds the registry, and all the second that another thread does. A flip is seen by the next ones.
+// Flips the cell of a backend that another view has for so long, and sets its flag in a group that doesn't list it. Whether it flipped.
+fn changes_another<S: BackendSelection, R: KeyRule + Drop, C: HealthCheck + Drop, W: Wait + Abort>(
+    rt: &W,
+    alloc: Global,
+    group: &SharedGroup<S, R, C>,
+    registry: &HealthRegistry<R, C>,
+) -> bool {
+    let other = Backend::new(alloc, "9.9.9.9:80").expect(rt, "refused");
+    group.set_enable(rt, &other, false);
+    let mut members = BTreeSet::new(alloc);
+    members.insert(other).expect(rt, "refused");
+    let view = registry.register_view(rt, alloc).expect(rt, "refused");
+    let shown = registry.update_view(rt, alloc, view, members);
+    let targets = registry.targets(rt, alloc).expect(rt, "refused");
+    let cell = targets.get(1).map(|target| target.cell).unwrap_or(0);
+    let flipped = registry.observe(rt, cell, false, 1);
+    registry.remove_view(rt, view);
+    [shown == Ok(()), flipped == Ok(true)] == [true; 2]
+}
+
+/// A selection takes no lock where its candidate's cell and flag didn't change since the last one, nor does a reading of what is ready: they
+/// go on while this very thread holds the registry, and all the second that another thread does. A flip is seen by the next ones.
 pub fn selects_while_the_registry_is_held<
     S: BackendSelection,
     D: ServiceDiscovery + Drop,
@@ -249,6 +270,7 @@ pub fn selects_while_the_registry_is_held<
     let first = select_one(rt, alloc, group, 0).expect(rt, "refused");
     let first = first.expect(rt, "none is ready");
     let asked = group.ready(rt, &first);
+    let other = changes_another(rt, alloc, group, registry);
     let again = selects_as_the_holder(rt, alloc, handle, registry, &first);
     let count = beside_a_holder(rt, alloc, handle, registry, &first);
     let targets = registry.targets(rt, alloc).expect(rt, "refused");
@@ -259,7 +281,7 @@ pub fn selects_while_the_registry_is_held<
         published == Turn::Published(1),
         [asked, again, group.ready(rt, &first)] == [true, true, false],
         count >= SELECTIONS,
-        flipped == Ok(true),
+        [other, flipped == Ok(true)] == [true; 2],
         third.is_none(),
         destroyed(rt, group, 0) == Ok(()),
     ];

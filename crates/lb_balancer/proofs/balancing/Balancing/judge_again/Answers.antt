@@ -10,10 +10,10 @@ note-requires g c =
     let gives = g.R.KeyRule.gives in
     let b = c.args.self.now in
     let n = (arc_value c.args.kept.now.shown).generation in
-    let judged = subst (λ (k : ℕ). JudgedIn gives b k c.args.backend.now c.in-Some.ready) c.generation.ensures c.in-Some.ensures in
-    noted gives b n c.args.kept.now.ready c.args.backend.now c.in-Some.ready c.requires.kept.1 judged
+    let judged = subst (λ (k : ℕ). JudgedIn gives b k c.args.backend.now c.in-Some.found.ready) c.generation.ensures c.in-Some.ensures in
+    noted gives b n c.args.kept.now.ready c.args.backend.now c.in-Some.found.ready c.requires.kept.1 judged
 
 pub returns-in-Some : goal.returns-in-Some
 returns-in-Some g c =
-    inl (subst (λ (k : ℕ). JudgedIn g.R.KeyRule.gives c.args.self.now k c.args.backend.now c.in-Some.ready) c.generation.ensures
+    inl (subst (λ (k : ℕ). JudgedIn g.R.KeyRule.gives c.args.self.now k c.args.backend.now c.in-Some.found.ready) c.generation.ensures
     c.in-Some.ensures)

@@ -16,8 +16,8 @@ pub note-requires : goal.note-requires
 note-requires g c =
     let gives = g.R.KeyRule.gives in
     let b = c.args.backend.now in
-    let said = c.ask_as_of-said.result in
+    let said = c.ask-said.result in
     subst (λ v. FoundAt gives v.site v.generation b said.ready said.is_newest) (sym c.found.view_is)
     (subst (λ n. FoundAt gives c.args.found.now.site n b said.ready said.is_newest) (sym c.requires.found.1)
     (subst (λ s. FoundAt gives s c.args.reader.now.generation b said.ready said.is_newest) (sym c.requires.found.0)
-    c.ask_as_of-said.ensures))
+    c.ask-said.ensures))

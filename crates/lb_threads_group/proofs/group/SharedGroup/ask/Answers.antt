@@ -2,7 +2,7 @@
 use Rattle.std.proofs.Common.{rules}
 use Rattle.lb_threads_core.proofs.Histories.{at_site}
 use Rattle.lb_threads_group.proofs.Findings.{found-now}
-use Rattle.lb_threads_group.proofs.group.SharedGroup.ask_as_of.Goals as goal
+use Rattle.lb_threads_group.proofs.group.SharedGroup.ask.Goals as goal
 
 pub returns : goal.returns
 returns g c =

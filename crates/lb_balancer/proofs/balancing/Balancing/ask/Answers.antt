@@ -1,7 +1,7 @@
 -- It is judged by what is served and the registry as they are.
 use Rattle.std.proofs.Common.{◌∙◌, sym}
 use Rattle.lb_balancer.proofs.Served.{known, of-registry}
-use Rattle.lb_balancer.proofs.balancing.Balancing.ask_ready.Goals as goal
+use Rattle.lb_balancer.proofs.balancing.Balancing.ask.Goals as goal
 
 pub returns : goal.returns
 returns g c = (
