@@ -110,7 +110,7 @@ rows() {
 
 names=("$@")
 if [ "$#" -eq 0 ]; then
-    names=(lb_tests lb_thread_tests lb_rows lb_example lbsim lbcheck lb_cost)
+    names=(lb_tests lb_thread_tests lb_group_tests lb_rows lb_example lbsim lbcheck lb_cost lb_soak)
 fi
 for name in "${names[@]}"; do
     begun=$SECONDS

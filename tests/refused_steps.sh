@@ -1,10 +1,10 @@
 #!/bin/bash
 # Each request for memory refused in turn, of two programs: `lb_rows 0`, which runs scripts over a world a step at a time, and calls of a
-# plain balancer, group and registry; and `lb_cost refused`, calls of a registry, view, balancer and group that threads may share, and
+# plain balancer, group and registry; and `lb_soak refused`, calls of a registry, view, balancer and group that threads may share, and
 # passes of checks. A step or a call that was refused for memory is given again, and so is a build that failed for it, as soon as it is
 # due; each answer has to be that of the script or of the call's row. The C library's calls are refused by refuse.c, which is compiled here
 # by `cc`. A line for each script and each kind of calls; the last line is 'N passed, M failed'.
-# LBROWS and LBCOST name other programs than those that `rt run` builds here; with an argument, `lb_rows` or `lb_cost`, only that one runs.
+# LBROWS and LBSOAK name other programs than those that `rt run` builds here; with an argument, `lb_rows` or `lb_soak`, only that one runs.
 set -euo pipefail
 unset CDPATH
 
@@ -79,8 +79,8 @@ if [ "${1:-lb_rows}" = lb_rows ]; then
     program=$(program_of lb_rows "${LBROWS-}")
     refuse_each "$program" 0
 fi
-if [ "${1:-lb_cost}" = lb_cost ]; then
-    program=$(program_of lb_cost "${LBCOST-}")
+if [ "${1:-lb_soak}" = lb_soak ]; then
+    program=$(program_of lb_soak "${LBSOAK-}")
     refuse_each "$program" refused
 fi
 echo "$passed passed, $failed failed"

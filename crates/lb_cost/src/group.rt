@@ -5,9 +5,9 @@ ghost use Rattle.std.specs.Prelude.{◌≡◌, IfOk, Some, slice_get};
 ghost use Rattle.lb_rebuild_core.specs.Stands.{SameSite};
 ghost use Rattle.lb_rebuild_core.specs.Values.{configs_of};
 
-use crate::members::members;
 use crate::words::{number_at, print_line};
 use anyhow::Error;
+use lb_crowd::members::members;
 use lb_rebuild_core::answers::Ask;
 use lb_rebuild_core::end_source::FixedMoment;
 use lb_rebuild_core::endings::{end_built, end_job, end_permit, end_reader};

@@ -1,8 +1,8 @@
 //! What a registry and its view cost at a size: `health BACKENDS ROUNDS`. A round updates a view by that many backends, observes each cell,
 //! asks of each backend whether it is ready, and lists the targets. `bench/health` takes the times.
-use crate::members::members;
 use crate::words::{number_at, print_line};
 use anyhow::Error;
+use lb_crowd::members::members;
 use lb_health_core::registry::RegistryCore;
 use lb_health_view::view::{Settings, ViewCore};
 use lb_select_base::refusal::Refusal;

@@ -1,24 +1,14 @@
 //! What the library's parts cost: `lb_cost WORD [WORD ..]`. The first word says what is measured, and the scripts of `bench/` print the
-//! results; `soak` runs groups under threads; `refused` makes the calls of which each request for memory is refused. Without a word each
-//! is done once in a small form, whose lines are always the same.
+//! results. Without a word each is measured once in a small form, whose lines are always the same.
 #![tactic(auto)]
 
 mod board;
 mod group;
 mod groups;
 mod health;
-mod members;
-mod passes;
-mod process;
 mod rebuilds;
-mod refused;
-mod refused_passes;
-mod refused_subjects;
 mod selects;
 mod shared;
-mod soak;
-mod soak_groups;
-mod soak_threads;
 mod starting;
 mod words;
 
@@ -26,8 +16,6 @@ use anyhow::Error;
 use log::Log;
 use std::alloc::Global;
 use std::env;
-use std::net::Net;
-use std::rt::Files;
 use std::sync::Wait;
 use std::thread::Threads;
 use std::time::Clock;
@@ -36,11 +24,9 @@ use words::Usage;
 // Measures what a word says, by these numbers.
 fn measure<
     R: Log
-        + Net
         + Threads
         + Wait
         + Clock
-        + Files
         + Input
         + Print
         + AllocGlobal
@@ -56,10 +42,8 @@ fn measure<
         "groups" => groups::run(rt, alloc, numbers),
         "health" => health::run(rt, alloc, numbers),
         "rebuilds" => rebuilds::run(rt, alloc, numbers),
-        "refused" => refused::run(rt, alloc),
         "selects" => selects::run(rt, alloc),
         "shared" => shared::run(rt, alloc, numbers),
-        "soak" => soak::run(rt, alloc, numbers),
         _ => Err(Usage::UnknownWord)?,
     }
 }
@@ -67,11 +51,9 @@ fn measure<
 // Measures each once, in its small form.
 fn measure_all<
     R: Log
-        + Net
         + Threads
         + Wait
         + Clock
-        + Files
         + Input
         + Print
         + AllocGlobal
@@ -84,12 +66,10 @@ fn measure_all<
     for word in ["board", "group", "health"] {
         measure(rt, alloc, word, &[])?;
     }
-    refused::run(rt, alloc)?;
     selects::few(rt, alloc)?;
     shared::run(rt, alloc, &[])?;
     groups::run(rt, alloc, &[])?;
-    rebuilds::run(rt, alloc, &[])?;
-    soak::run(rt, alloc, &[])
+    rebuilds::run(rt, alloc, &[])
 }
 
 fn main(rt: HostRuntime) -> Result<(), Error> {

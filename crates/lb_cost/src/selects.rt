@@ -1,8 +1,8 @@
 //! Selections by the library alone: `selects`, what one costs without a script's text. A line of standard input is a run,
 //! `KIND BACKENDS WEIGHT SELECTIONS`; its answer is the sum of the addresses that were chosen, so that runs can be compared.
-use crate::members::member;
 use crate::words::Usage;
 use anyhow::Error;
+use lb_crowd::members::member;
 use lb_select::ketama::KetamaHashing;
 use lb_select::least::LeastConnections;
 use lb_select::selection::{FNVHash, RoundRobin};

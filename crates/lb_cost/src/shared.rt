@@ -1,10 +1,10 @@
 //! Selections a second of one balancer by threads, while another thread updates it each 10 milliseconds; every other update leaves one
 //! backend out: `shared KIND BACKENDS THREADS SECONDS HOW`. The kind is `fnv`, `ketama`, `least`, `random` or `rr`; `reader`
 //! or `balancer` says how they select. `bench/groups` prints them with a plain program's.
-use crate::members::members;
 use crate::words::{Usage, number_at, word_at};
 use anyhow::Error;
 use lb_balancer::load_balancer::LoadBalancer;
+use lb_crowd::members::members;
 use lb_health_core::error::CheckError;
 use lb_health_core::health_check::HealthCheck;
 use lb_health_core::keys::Rule;

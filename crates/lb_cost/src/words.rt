@@ -5,7 +5,7 @@ use thiserror::Error;
 /// Why there is nothing to measure.
 #[derive(Clone, Copy, Debug, PartialEq, Eq, Error)]
 pub enum Usage {
-    #[error("usage: lb_cost [board | group | groups | health | rebuilds | refused | selects | shared | soak] [WORD ..]")]
+    #[error("usage: lb_cost [board | group | groups | health | rebuilds | selects | shared] [WORD ..]")]
     UnknownWord,
     #[error("a selector that threads share is: fnv | rr")]
     UnknownKind,

@@ -1,7 +1,7 @@
 //! What threads share, by the types' defaults alone: its discovery and its check are a caller's, each in a box.
 use crate::balancer::fixtures::{is_second, listed, note};
-use crate::groups::turns::turn;
 use crate::service_fixtures::Ticks;
+use lb_crowd::turns::turn;
 use log::Log;
 use pingora_load_balancing::background::shutdown_pair;
 use pingora_load_balancing::discovery::{
@@ -158,7 +158,7 @@ fn build<W: Abort + Wait>(rt: &W, alloc: Global, group: &LoadBalancerGroup<Consi
     let mut clock = Ticks { next: 0, step: 5 };
     group.update(rt, alloc, &mut clock).expect(rt, "refused");
     for _ in 0..2 {
-        turn(rt, alloc, &**group.shared(), 0);
+        turn(rt, alloc, &**group.shared(), 0).expect(rt, "refused");
     }
 }
 

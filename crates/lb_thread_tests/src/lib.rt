@@ -1,4 +1,5 @@
-//! Tests of what threads share: locks, boards, checks, registries, services, balancers and groups. There is no code here but the tests'.
+//! Tests of what threads share: locks, boards, checks, registries, services, balancers, and groups with checks of their own. There is no code
+//! here but the tests'.
 #![tactic(auto)]
 
 #[cfg(test)]
@@ -14,11 +15,7 @@ mod checks;
 #[cfg(test)]
 mod ends;
 #[cfg(test)]
-mod groups;
-#[cfg(test)]
 mod locks;
-#[cfg(test)]
-mod noted;
 #[cfg(test)]
 mod registries;
 #[cfg(test)]
@@ -27,5 +24,7 @@ mod service_fixtures;
 mod services;
 #[cfg(test)]
 mod signals;
+#[cfg(test)]
+mod slots;
 #[cfg(test)]
 mod views;

@@ -1,10 +1,10 @@
 //! The groups of the soak: four of two slots each, two on each of two gates and two over each of two registries. Their slots have selectors
 //! of all five kinds.
-use crate::members::member;
 use lb_balancer_group::gate_refusal::GateRefusal;
 use lb_balancer_group::group::LoadBalancerGroup;
 use lb_crowd::counted::{Counted, Counting, Counts};
 use lb_crowd::crowd::{ends, is_free, lives_none};
+use lb_crowd::members::member;
 use lb_health_core::error::CheckError;
 use lb_health_core::health_check::HealthCheck;
 use lb_health_core::keys::Rule;

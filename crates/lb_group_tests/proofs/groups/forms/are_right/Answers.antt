@@ -19,9 +19,9 @@ use Rattle.lb_balancer_group.specs.contracts.group.LoadBalancerGroup as handle
 use Rattle.lb_balancer_group.proofs.Handles.{handle_sync}
 use Rattle.lb_threads_core.specs.contracts.registry.HealthRegistry as registry
 use Rattle.lb_threads_core.proofs.registry.HealthRegistry.TheSendSync as registry_crossing
-use Rattle.lb_thread_tests.specs.contracts.groups.forms.Tally as tally
-use Rattle.lb_thread_tests.proofs.groups.forms.Tally.TheSendSync as tally_crossing
-use Rattle.lb_thread_tests.proofs.groups.forms.are_right.Goals as goal
+use Rattle.lb_group_tests.specs.contracts.groups.forms.Tally as tally
+use Rattle.lb_group_tests.proofs.groups.forms.Tally.TheSendSync as tally_crossing
+use Rattle.lb_group_tests.proofs.groups.forms.are_right.Goals as goal
 
 all_shared : (Ts : List RattleType) → AllSync Ts → AllSync (rows (parts Ts))
 all_shared [] s = tt

@@ -1,5 +1,5 @@
-//! Groups that threads share: a table of cases, each of which is played on two new groups of two slots on one gate; a group whose slots are
-//! of two kinds; and groups of all forms of selection at once.
+//! Groups that threads share: a table of cases, each of which is played on two new groups of two slots on one gate, and groups of all forms of
+//! selection at once.
 
 mod builds;
 mod forms;
@@ -7,10 +7,9 @@ mod handles;
 mod moments;
 mod passes;
 mod runs;
-mod slots;
 mod staying;
 mod tickets;
-pub(crate) mod turns;
+mod turns;
 mod waking;
 
 use crate::asserted::assert_same;

@@ -1,4 +1,4 @@
-//! A soak: `soak [SECONDS]`, ten seconds without the number. Round after round four groups on two gates and over two registries are made,
+//! A soak. Round after round four groups on two gates and over two registries are made,
 //! updated, checked, flagged and selected from by threads, and then cancelled or dropped. It ends well where no answer was wrong, every
 //! permit came back and no thread stays; where groups in which nothing happens take less than a hundredth of a processor for ten seconds;
 //! and, after two minutes or more, where at most a twentieth more is resident than was after one minute. A line each minute shows that it
@@ -7,7 +7,6 @@ use crate::passes::pass;
 use crate::process::{Process, resident};
 use crate::soak_groups::{Flips, Groups, Registry, Site, settles, starts, stir};
 use crate::soak_threads::{Tally, joined, start_user};
-use crate::words::number_at;
 use anyhow::Error;
 use lb_select_base::refusal::Refusal;
 use lb_threads_core::gate::SelectorRebuildGate;
@@ -335,8 +334,7 @@ pub fn run<
         + Sync
         + Drop
         + 'static,
->(rt: &W, alloc: Global, numbers: &[String]) -> Result<(), Error> {
-    let seconds = u64::from(number_at(numbers, 0, 10)?);
+>(rt: &W, alloc: Global, seconds: u32) -> Result<(), Error> {
     let site = Site {
         gates: [
             Arc::new(alloc, SelectorRebuildGate::new(alloc)?)?,
@@ -351,5 +349,5 @@ pub fn run<
     for registry in &site.registries {
         checked(rt, &**registry, &site.flipped)?;
     }
-    soaked(rt, alloc, &site, seconds)
+    soaked(rt, alloc, &site, u64::from(seconds))
 }

@@ -1,11 +1,11 @@
 //! A group of two slots of two kinds, whose turns the test takes, and then workers: what each slot selects, by loads, by the flags of its
 //! discovery and of its caller, and by a pass of checks; and that it leaves while its registry is held.
-use super::turns::turn;
 use crate::balancer::fixtures::{
     DISABLES, ENABLES, InTurn, Line, ROWS, SecondDown, TestedRegistry, in_turn, note, second_down,
 };
 use crate::service_fixtures::Ticks;
 use lb_crowd::crowd::ends;
+use lb_crowd::turns::turn;
 use lb_threads_core::registry::{put_registry, take_registry};
 use log::Log;
 use pingora_load_balancing::background::RuntimeClock;
@@ -75,7 +75,7 @@ impl<R: Abort + Wait + Clock + Copy + Drop> Bench<R> {
             .update(rt, self.alloc, &mut clock)
             .expect(rt, "refused");
         for slot in &[0, 0, 1, 1] {
-            turn(rt, self.alloc, &**self.group.shared(), *slot);
+            turn(rt, self.alloc, &**self.group.shared(), *slot).expect(rt, "refused");
         }
         self.note(rt, text);
     }

@@ -1,6 +1,7 @@
 //! Each built selector has a counter of tickets of its own, which begins at 0; a reader of a retired selector goes on in that one's.
-use crate::groups::turns::{Still, turn};
+use crate::groups::turns::turn;
 use lb_crowd::crowd::select_one;
+use lb_crowd::turns::Still;
 use pingora_load_balancing::discovery::{DiscoverySource, Static};
 use pingora_load_balancing::health_check::{HealthCheck, KeyRule};
 use pingora_load_balancing::port::Turn;

@@ -1,31 +1,19 @@
 //! Turns that the caller's thread takes for slots of groups on one gate, and their workers' last ones.
 use lb_crowd::crowd::{one_backend, select_one};
+use lb_crowd::turns;
+use lb_crowd::turns::Still;
 use log::sink::Locked;
 use log::{Level, Log, Logged};
 use pingora_load_balancing::background::work;
 use pingora_load_balancing::discovery::{DiscoverySource, Static};
 use pingora_load_balancing::health_check::{HealthCheck, KeyRule};
-use pingora_load_balancing::port::{LockedPort, Turn, worker_turn};
+use pingora_load_balancing::port::Turn;
 use pingora_load_balancing::selection::BackendSelection;
 use pingora_load_balancing::{Backend, MomentSource, Refusal, SharedGroup};
 use std::alloc::Global;
 use std::collections::BTreeSet;
 use std::process::Abort;
 use std::sync::Wait;
-
-// A clock that always reads the same.
-#[derive(Drop)]
-pub(super) struct Still {}
-
-impl MomentSource for Still {
-    ghost use Rattle.std.specs.Prelude.{◌≡◌};
-
-    ghost reads = { λ _ m _. m ≡ 10 };
-
-    fn now(&mut self) -> u128 {
-        10
-    }
-}
 
 // Updates a group to a backend of this weight; the generation.
 pub(super) fn update<
@@ -41,14 +29,13 @@ pub(super) fn update<
 }
 
 // Takes a turn for a slot.
-pub(crate) fn turn<S: BackendSelection, R: KeyRule + Drop, C: HealthCheck + Drop, W: Wait + Abort>(
+pub(super) fn turn<S: BackendSelection, R: KeyRule + Drop, C: HealthCheck + Drop, W: Wait + Abort>(
     rt: &W,
     alloc: Global,
     group: &SharedGroup<S, R, C>,
     slot: usize,
 ) -> Turn {
-    let mut port = LockedPort::new(group, rt);
-    worker_turn(alloc, &mut port, slot, &mut Still {}).expect(rt, "refused")
+    turns::turn(rt, alloc, group, slot).expect(rt, "refused")
 }
 
 // Whether slot 0 selects the one backend.

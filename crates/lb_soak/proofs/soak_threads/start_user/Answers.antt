@@ -10,9 +10,9 @@ use Rattle.std.specs.contracts.sync.Arc as Arc
 use Rattle.lb_balancer_group.specs.contracts.group.LoadBalancerGroup as handle
 use Rattle.lb_balancer_group.proofs.Handles.{handle_send, handle_sync}
 use Rattle.lb_balancer_group.proofs.Crossings.{sent}
-use Rattle.lb_cost.specs.contracts.soak_threads.Tally as tally
-use Rattle.lb_cost.proofs.soak_threads.Tally.TheSendSync as crossing
-use Rattle.lb_cost.proofs.soak_threads.start_user.Goals as goal
+use Rattle.lb_soak.specs.contracts.soak_threads.Tally as tally
+use Rattle.lb_soak.proofs.soak_threads.Tally.TheSendSync as crossing
+use Rattle.lb_soak.proofs.soak_threads.start_user.Goals as goal
 
 pub spawn-started-requires-send-F : goal.spawn-started-requires-send-F
 spawn-started-requires-send-F g c κs within =
