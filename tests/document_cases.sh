@@ -70,13 +70,12 @@ absent_names() {
 }
 # Counts of README's table 'Reliability' that aren't the repository's.
 stale_counts() {
-    local edits=(crates/*/must-fail/*.edit) more=(tests/edits/*/*.edit) crate tests=() rows asked said
-    for crate in lb_tests lb_thread_tests; do
-        tests+=("$(grep -rhx ' *#\[test\]' "crates/$crate/src" | wc -l)")
-    done
+    local edits=(crates/*/must-fail/*.edit) more=(tests/edits/*/*.edit) single threaded rows asked said
+    single=$(grep -rhx ' *#\[test\]' crates/lb_tests/src | wc -l)
+    threaded=$(grep -rhx ' *#\[test\]' crates/lb_{thread,group}_tests/src | wc -l)
     rows=$(wc -l <crates/lb_rows/stdout)
     asked=$(grep -cE '^(asked|against) ' tests/lbcheck_cases.sh)
-    for said in "${#edits[@]} in each gate, ${#more[@]} more" "${rows} in each gate" "${tests[0]} and ${tests[1]} in each gate" \
+    for said in "${#edits[@]} in each gate, ${#more[@]} more" "${rows} in each gate" "$single and $threaded in each gate" \
         " and $asked in each gate"; do
         grep -qF "$said" README.md || echo "README doesn't say '$said'"
     done

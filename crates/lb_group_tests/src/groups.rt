@@ -1,5 +1,5 @@
-//! Groups that threads share: a table of cases, each of which is played on two new groups of two slots on one gate, and groups of all forms of
-//! selection at once.
+//! Groups that threads share: a table of cases, each of which is played on two new groups of two slots on one gate, and groups of all forms
+//! of selection at once.
 
 mod builds;
 mod forms;

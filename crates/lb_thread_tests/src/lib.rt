@@ -1,5 +1,5 @@
-//! Tests of what threads share: locks, boards, checks, registries, services, balancers, and groups with checks of their own. There is no code
-//! here but the tests'.
+//! Tests of what threads share: locks, boards, checks, registries, services, balancers, and groups with checks. There is no code here but
+//! the tests'.
 #![tactic(auto)]
 
 #[cfg(test)]

@@ -1,6 +1,6 @@
 //! Counts of changes, and stamps, which say as of which changes something was found of a backend. A backend has one of the counts for its
-//! cell and one for its flag, so that a flip or a flag makes the findings of few others old. Contracts say nothing of them: they decide when
-//! a finding is asked for again, and not what it is.
+//! cell and one for its flag, so that a flip or a flag makes the findings of few others old. Contracts say nothing of them: they decide
+//! when a finding is asked for again, and not what it is.
 
 use std::alloc::{AllocError, Global};
 use std::sync::atomic::AtomicU64;
@@ -60,7 +60,7 @@ impl ChangeCounts {
     }
 }
 
-/// As of which changes something was found of a backend: which counts are those of its cell and of its flag, and their sum then.
+/// The changes as of which something was found of a backend: which counts are those of its cell and of its flag, and their sum then.
 #[derive(Clone, Copy)]
 pub struct Stamp {
     bits: u64,

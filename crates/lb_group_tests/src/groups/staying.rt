@@ -252,8 +252,8 @@ fn changes_another<S: BackendSelection, R: KeyRule + Drop, C: HealthCheck + Drop
     [shown == Ok(()), flipped == Ok(true)] == [true; 2]
 }
 
-/// A selection takes no lock where its candidate's cell and flag didn't change since the last one, nor does a reading of what is ready: they
-/// go on while this very thread holds the registry, and all the second that another thread does. A flip is seen by the next ones.
+/// A selection takes no lock where its candidate's cell and flag didn't change since the last one, nor does a reading of what is ready:
+/// they go on while this very thread holds the registry, and all the second that another thread does. A flip is seen by the next ones.
 pub fn selects_while_the_registry_is_held<
     S: BackendSelection,
     D: ServiceDiscovery + Drop,
