@@ -223,21 +223,6 @@ impl<S: BackendSelection, R: KeyRule + Drop, C: HealthCheck + Drop> SharedGroup<
         }
     }
 
-    // Gives each lane of a slot a reader of what the slot serves now. It is for the thread that publishes, so that requests seldom have to
-    // enter. A lane that is read is emptied by its last reader.
-    pub(crate) fn fill_lanes<W: Wait>(&self, rt: &W, slot: usize) {
-        let Some(lanes) = self.lanes_of(slot) else {
-            return;
-        };
-        for lane in 0..lanes.count() {
-            let hint = lane as u64;
-            self.clear_lane(rt, lanes, hint);
-            if let Ok(entry) = self.enter_lane(rt, slot) {
-                self.keep(rt, hint, entry);
-            }
-        }
-    }
-
     // Empties the lanes of a slot.
     pub(crate) fn clear_lanes<W: Wait>(&self, rt: &W, slot: usize) {
         if let Some(lanes) = self.lanes_of(slot) {

@@ -112,7 +112,7 @@ impl<'g, 'r, 'f, S: BackendSelection, R: KeyRule + Drop, C: HealthCheck + Drop, 
         let told = held.value.publish(built);
         group.note_slot(&held.value, slot);
         group.lock.put(held);
-        group.fill_lanes(self.rt, slot);
+        group.clear_lanes(self.rt, slot);
         group.judge_all(self.rt, slot);
         match told {
             Ok(told) => told,
