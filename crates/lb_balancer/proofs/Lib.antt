@@ -1,4 +1,3 @@
-mod Flags
 mod Judged
 mod Kepts
 mod OfTexts

@@ -1,8 +1,7 @@
-mod CellLemmas
 pub mod Exchanges
-mod FlagLemmas
 pub mod Histories
 mod Memberships
+mod ReadyLemmas
 pub mod Registrations
 pub mod SameReadiness
 mod Updates

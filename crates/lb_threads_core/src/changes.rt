@@ -1,19 +1,20 @@
-//! Counts of changes, and stamps, which say as of which changes something was found of a backend. Backends share counts by a number of
-//! their identity, so that a change makes the findings of few others old. Contracts say nothing of them: they decide when a finding is
-//! asked for again, and not what it is.
+//! Counts of changes, and stamps, which say as of which changes something was found of a backend. A backend has one of the counts for its
+//! cell and one for its flag, so that a flip or a flag makes the findings of few others old. Contracts say nothing of them: they decide
+//! when a finding is asked for again, and not what it is.
 
 use std::alloc::{AllocError, Global};
 use std::sync::atomic::AtomicU64;
 use std::sync::atomic::Ordering::SeqCst;
 
-// How many counts there are.
+// How many counts there are: as many as a stamp tells apart.
 const COUNTS: u64 = 256;
 
-/// A stamp of so many changes and more is never of now.
-pub const STAMPS: u64 = 0x2000_0000;
+// The bits of a stamp: eight say which count the cell has, eight which the flag, and those below are of the sum of both counts.
+const CELL: u64 = 53;
 
-// What a count is at least once it is closed.
-const CLOSED: u64 = 0x8000_0000_0000_0000;
+const FLAG: u64 = 45;
+
+const SUMS: u64 = 1 << FLAG;
 
 /// Counts of changes, by number modulo 256.
 #[derive(Drop)]
@@ -49,14 +50,7 @@ impl ChangeCounts {
         }
     }
 
-    /// Has no stamp be of now any more.
-    pub fn close(&self) {
-        for count in self.counts.as_slice() {
-            count.fetch_or(CLOSED, SeqCst);
-        }
-    }
-
-    /// Returns how many changes were counted of what has this number, and of what shares its count.
+    /// Returns how many changes were counted of what has this number, and of what shares its count, wrapping.
     #[inline]
     pub fn so_far(&self, number: u64) -> u64 {
         match self.counts.get((number % COUNTS) as usize) {
@@ -66,18 +60,19 @@ impl ChangeCounts {
     }
 }
 
-/// The changes as of which something was found, of what has some number: how many they were.
+/// The changes as of which something was found of a backend: which counts are those of its cell and of its flag, and their sum then.
 #[derive(Clone, Copy)]
 pub struct Stamp {
     bits: u64,
 }
 
 impl Stamp {
-    /// Returns the stamp of what has this number, as of now.
+    /// Returns the stamp of these counts of a cell and of a flag, with the numbers of both.
     #[inline]
-    pub fn new(changes: &ChangeCounts, number: u64) -> Stamp {
+    pub fn new(cells: &ChangeCounts, cell: u64, flags: &ChangeCounts, flag: u64) -> Stamp {
+        let sum = cells.so_far(cell).wrapping_add(flags.so_far(flag));
         Stamp {
-            bits: changes.so_far(number),
+            bits: cell % COUNTS << CELL | flag % COUNTS << FLAG | sum % SUMS,
         }
     }
 
@@ -93,9 +88,10 @@ impl Stamp {
         self.bits
     }
 
-    /// Returns whether no change was counted since of what has this number.
+    /// Returns whether none of the changes came since that make another answer of what was found.
     #[inline]
-    pub fn is_of_now(self, changes: &ChangeCounts, number: u64) -> bool {
-        changes.so_far(number) == self.bits
+    pub fn is_of_now(self, cells: &ChangeCounts, flags: &ChangeCounts) -> bool {
+        let now = Stamp::new(cells, self.bits >> CELL, flags, self.bits >> FLAG);
+        now.bits == self.bits
     }
 }
