@@ -1,10 +1,10 @@
 -- What lanes and readers keep: words of the generation that is shown.
-use Rattle.std.proofs.Common.{◌≡◌, ℕ, Bool, Option, Some, None, ap, sym, subst}
+use Rattle.std.proofs.Common.{◌≡◌, ℕ, Option, Some, None, ap, subst}
 use Rattle.std.specs.Prelude.{IfSome}
 use Rattle.std.specs.Arc.{arc_value}
 use Rattle.std.specs.declared.sync.Arc.{Arc}
 use Rattle.lb_select_base.specs.Backends.{Member}
-use Rattle.lb_balancer.specs.History.{BalancerValue, JudgedIn}
+use Rattle.lb_balancer.specs.History.{BalancerValue}
 use Rattle.lb_balancer.specs.Kept.{AreWordsOf, GenerationValue, IsKept}
 use Rattle.lb_balancer.specs.Shown.{ShownValue}
 
@@ -21,13 +21,6 @@ module _ {D C R : Type 0} where
   balancer-of b n None of = tt
 
   module _ (gives : R → Member → Member → Type 0) where
-    -- what is judged of this generation may be noted in its words
-    pub noted : {Z : Type 0} (b : BalancerValue D C R) (n : ℕ) (o : Option (Arc (GenerationValue D C R) Z)) (m : Member) (a : Bool)
-        → AreWordsOf b n o → JudgedIn gives b n m a
-        → IfSome o (λ r. JudgedIn gives (arc_value r).balancer (arc_value r).number m a)
-    noted b n (Some r) m a of judged = subst (λ (v : GenerationValue D C R). JudgedIn gives v.balancer v.number m a) (sym of) judged
-    noted b n None m a of judged = tt
-
     -- what is kept of a balancer is kept of an equal one
     pub kept-of : {Y Z : Type 0} (b c : BalancerValue D C R) (s : Arc (ShownValue C) Y) (o : Option (Arc (GenerationValue D C R) Z))
         → b ≡ c → IsKept gives b s o → IsKept gives c s o

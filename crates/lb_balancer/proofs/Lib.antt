@@ -1,3 +1,4 @@
+mod Flags
 mod Judged
 mod Kepts
 mod OfTexts

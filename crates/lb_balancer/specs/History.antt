@@ -5,6 +5,7 @@ use Rattle.lb_select_base.specs.Backends.{Member}
 use Rattle.lb_health_core.specs.Registry.{RegistryValue}
 use Rattle.lb_health_view.specs.Discoveries.{Discovers}
 use Rattle.lb_health_view.specs.declared.discovery.DiscoverySource.{DiscoverySource}
+use Rattle.lb_health_view.specs.RegistrySide.{HasCellIn}
 use Rattle.lb_health_view.specs.ViewEvents.{ViewEvent, generation_after, membership_after}
 use Rattle.lb_health_view.specs.Views.{IsViewAfter}
 use Rattle.lb_balancer_core.specs.Balancer.{IsJudged}
@@ -47,6 +48,14 @@ module _ {D C R : Type 0} (b : BalancerValue D C R) where
   IsServedGeneration n =
       (s : ServedViewValue C) × IsServedBy s
       × ((views : List ViewEvent) → IsViewAfter views s.view → n ≡ generation_after views)
+
+  -- the cell that the membership of a generation has for a backend, and whether the backend is enabled, at some state of what the balancer
+  -- serves, which was this generation
+  abbrev pub FlaggedIn : ℕ → Member → ℕ → Bool → Type 0
+  FlaggedIn n m c enabled =
+      (s : ServedViewValue C) × (IsServedBy s
+      × (((views : List ViewEvent) → IsViewAfter views s.view → n ≡ generation_after views)
+      × ((views : List ViewEvent) → IsViewAfter views s.view → HasCellIn views (generation_after views) m c enabled)))
 
   -- a call that was made at some state of what the balancer serves, and left one
   abbrev pub UnderServing : (ServedViewValue C → ServedViewValue C → Type 0) → Type 0

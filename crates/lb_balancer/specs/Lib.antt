@@ -1,5 +1,5 @@
+pub mod FlaggedSame
 pub mod History
-pub mod JudgedSame
 pub mod Kept
 pub mod Made
 pub mod Selections

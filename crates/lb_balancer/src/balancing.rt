@@ -42,10 +42,10 @@ use lb_threads_core::generators::SharedGenerator;
 use lb_threads_core::lanes::Lanes;
 use lb_threads_core::loads::SharedLoads;
 use lb_threads_core::lock::KeyedLock;
-use lb_threads_core::marks::flag_of;
+use lb_threads_core::marks::{flag_of, spread_of};
 use lb_threads_core::numbers::KeyedNumbers;
 use lb_threads_core::owner::ViewOwner;
-use lb_threads_core::registry::{HealthRegistry, put_registry, take_registry};
+use lb_threads_core::registry::{HealthRegistry, cell_words_of, put_registry, take_registry};
 use std::alloc::Global;
 use std::collections::BTreeSet;
 use std::marker::Model;
@@ -64,9 +64,6 @@ type ShownLock<S, D, R, C> = KeyedLock<
 >;
 
 type GenerationNumber<S, D, R, C> = KeyedNumbers<Snapshot<Origin<S, D, R, C>>, OfGeneration>;
-
-// What the count of changes is at least once the balancer left its registry.
-pub(crate) const LEFT: u64 = 0x8000_0000_0000_0000;
 
 // The number of lanes: as many as threads that select at once may want, a power of two.
 const LANES: usize = 128;
@@ -376,7 +373,9 @@ impl<
         ensures { IfSome result (λ r. (arc_value r).balancer ≡ self.now) }
     {
         let next = self.generation(rt).checked_add(1)?;
-        let ready = Readiness::new(alloc, &self.origin, next, members).ok()?;
+        let origin = &self.origin;
+        let cells = cell_words_of(origin.registry(), rt, alloc, members.len()).ok()?;
+        let ready = Readiness::new(alloc, origin, next, members, cells).ok()?;
         Arc::new(alloc, ready).ok()
     }
 
@@ -569,7 +568,7 @@ impl<
         held.value.served.set_enable(backend, enabled);
         self.serving.put(held);
         self.changes.fetch_add(1, SeqCst);
-        self.flags.note(flag_of(backend));
+        self.flags.note(flag_of(spread_of(backend)));
         self.judge_all(rt);
     }
 
@@ -602,7 +601,8 @@ impl<
         held.value.leave(&mut cells.value);
         put_registry(registries, cells);
         self.serving.put(held);
-        self.changes.fetch_or(LEFT, SeqCst);
+        self.changes.fetch_add(1, SeqCst);
+        self.flags.close();
     }
 
     /// Sets the check of the registry.

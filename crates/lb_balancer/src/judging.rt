@@ -1,5 +1,5 @@
-//! Readiness at the moment when a selection asks for it: the word of its candidate says it, and where that isn't of now, view and registry
-//! do, under their locks. So a flip or a flag costs one question, whoever made it.
+//! Readiness at the moment when a selection asks for it: the words of its candidate and of the candidate's cell say it, and where they
+//! don't, or the flag changed since, view and registry do, under their locks.
 ghost use Rattle.std.specs.Prelude.{◌≡◌, IfErr, IfSome, OnOk};
 ghost use Rattle.std.specs.Arc.{arc_value};
 ghost use Rattle.lb_rebuild_core.specs.GroupCalls.{AcceptsBy};
@@ -7,8 +7,9 @@ ghost use Rattle.lb_balancer.specs.History.{JudgedBy, JudgedIn};
 ghost use Rattle.lb_balancer.specs.Kept.{IsKept};
 ghost use Rattle.lb_balancer.specs.Selections.{IsReadyIn, SelectsFrom};
 
-use crate::balancing::{Balancing, LEFT};
+use crate::balancing::Balancing;
 use crate::kept::KeptShown;
+use crate::readiness::Judged;
 use crate::shown::Shown;
 use lb_health_core::health_check::HealthCheck;
 use lb_health_core::keys::KeyRule;
@@ -17,13 +18,12 @@ use lb_select_base::backend::Backend;
 use lb_select_base::refusal::Refusal;
 use lb_select_base::walk::BackendSelection;
 use lb_threads_core::changes::Stamp;
+use lb_threads_core::flag_words::Flagged;
 use lb_threads_core::generators::SharedGenerator;
-use lb_threads_core::marks::flag_of;
-use lb_threads_core::ready_words::Said;
-use lb_threads_core::registry::{flips_of, put_registry, take_registry};
+use lb_threads_core::marks::{flag_of, spread_of};
+use lb_threads_core::registry::{put_registry, take_registry};
 use std::alloc::Global;
 use std::sync::Wait;
-use std::sync::atomic::Ordering::SeqCst;
 
 impl<
     S: BackendSelection,
@@ -31,15 +31,14 @@ impl<
     R: KeyRule + Drop,
     C: HealthCheck + Drop,
 > Balancing<S, D, R, C> {
-    // Whether what was found of a backend is so now. Of a balancer that left its registry that isn't known, since others' calls may then
-    // remove its cells.
+    // Whether the flag that was found of a backend is the one of now, and its cell is kept. Of a balancer that left its registry that isn't
+    // known, since others' calls may then remove its cells.
     #[inline]
-    pub(crate) fn is_of_now(&self, stamp: Stamp) -> bool {
-        self.changes.load(SeqCst) < LEFT
-            && stamp.is_of_now(flips_of(self.origin.registry()), &self.flags)
+    pub(crate) fn is_of_now(&self, spread: u64, stamp: Stamp) -> bool {
+        stamp.is_of_now(&self.flags, flag_of(spread))
     }
 
-    // Whether a backend is ready for selections in what is kept, by its word where that is of now. Where another generation is served
+    // Whether a backend is ready for selections in what is kept, by its words where they are of now. Where another generation is served
     // meanwhile, whose view doesn't say it any more, it is as it was found last.
     pub(crate) fn judge<W: Wait>(
         &self,
@@ -50,14 +49,15 @@ impl<
         requires { IsKept R.gives self.now kept.now.shown kept.now.ready }
         ensures { IsReadyIn R.gives self.now (arc_value kept.now.shown) backend.now result }
     {
-        let said = kept.said(backend);
-        match said {
-            Some(said) if self.is_of_now(said.stamp) => said.ready,
-            _ => self.judge_again(rt, kept, backend, said),
+        let spread = spread_of(backend);
+        let judged = kept.said(backend, spread);
+        match judged {
+            Some(judged) if self.is_of_now(spread, judged.stamp) => judged.ready,
+            _ => self.judge_again(rt, kept, backend, judged),
         }
     }
 
-    // Asks for a backend, and notes what was found; or returns what its word says.
+    // Asks for a backend; or returns what its words say.
     #[cold]
     #[inline(never)]
     fn judge_again<W: Wait>(
@@ -65,27 +65,29 @@ impl<
         rt: &W,
         kept: &KeptShown<S, D, R, C>,
         backend: &Backend,
-        said: Option<Said>,
+        judged: Option<Judged>,
     ) -> bool
         requires kept { IsKept R.gives self.now kept.now.shown kept.now.ready }
-        requires said { IfSome said (λ s. JudgedIn R.gives self.now (arc_value kept.now.shown).generation backend.now s.ready) }
+        requires judged { IfSome judged (λ j. JudgedIn R.gives self.now (arc_value kept.now.shown).generation backend.now j.ready) }
         ensures { IsReadyIn R.gives self.now (arc_value kept.now.shown) backend.now result }
     {
-        if let Some(found) = self.ask(rt, kept.generation(), backend) {
-            kept.note(backend, found);
-            return found.ready;
+        if let Some(ready) = self.ask(rt, kept, backend) {
+            return ready;
         }
-        match said {
-            Some(said) => said.ready,
+        match judged {
+            Some(judged) => judged.ready,
             None => kept.was_ready(backend),
         }
     }
 
-    // Whether view and registry say that a backend is ready, and as of which changes, where this generation is served.
-    fn ask<W: Wait>(&self, rt: &W, generation: u64, backend: &Backend) -> Option<Said>
-        ensures { IfSome result (λ said. JudgedIn R.gives self.now generation backend.now said.ready) }
+    // Whether view and registry say that a backend is ready, where the kept generation is served; its words say it from now on.
+    fn ask<W: Wait>(&self, rt: &W, kept: &KeptShown<S, D, R, C>, backend: &Backend) -> Option<bool>
+        requires { IsKept R.gives self.now kept.now.shown kept.now.ready }
+        ensures { IfSome result (JudgedIn R.gives self.now (arc_value kept.now.shown).generation backend.now) }
     {
         let _key = &self.origin;
+        let generation = kept.generation();
+        let stamp = Stamp::new(&self.flags, flag_of(spread_of(backend)));
         let held = self.serving.take(rt);
         if held.value.served.generation() != generation {
             self.serving.put(held);
@@ -93,16 +95,19 @@ impl<
         }
         let registries = self.origin.registry();
         let cells = take_registry(registries, rt);
-        let cell = held.value.served.cell_of(backend).unwrap_or(0);
-        let stamp = Stamp::new(flips_of(registries), cell, &self.flags, flag_of(backend));
         let ready = held.value.served.ready(&cells.value, backend);
+        if let Some((cell, is_enabled)) = held.value.served.cell_and_flag(backend) {
+            let flagged = Flagged {
+                cell,
+                is_enabled,
+                is_newest: true,
+                stamp,
+            };
+            kept.note(backend, flagged, cells.value.cell_ready(cell));
+        }
         put_registry(registries, cells);
         self.serving.put(held);
-        Some(Said {
-            ready,
-            is_newest: true,
-            stamp,
-        })
+        Some(ready)
     }
 
     // Judges each member that has a word. It is for the thread that updates, sets a flag or checks, so that requests seldom have to ask.

@@ -1,17 +1,18 @@
 //! What a balancer keeps in its lanes, and selections in it without a lock. A selection finds out by one load whether its lane has the
-//! generation that is served now, and by four whether a backend's word is of now: those of the word, of the changes of its flag and of its
-//! cell, and of whether the balancer left its registry.
+//! generation that is served now, and by three whether a backend is ready: those of its word, of the changes of its flag, and of its cell's
+//! word.
 ghost use Rattle.std.specs.Prelude.{◌≡◌, IfErr, IfOk, IfSome, OnOk};
 ghost use Rattle.std.specs.Arc.{arc_value};
 ghost use Rattle.lb_rebuild_core.specs.GroupCalls.{AcceptsBy};
-ghost use Rattle.lb_balancer.specs.History.{BalancerValue, IsShownBy, JudgedBy, JudgedIn};
+ghost use Rattle.lb_balancer.specs.History.{BalancerValue, FlaggedIn, IsShownBy, JudgedBy, JudgedIn};
 ghost use Rattle.lb_balancer.specs.Kept.{IsKept};
 ghost use Rattle.lb_balancer.specs.Selections.{SelectsFrom, WasReady};
 ghost use Rattle.lb_balancer.specs.Shown.{ShownValue};
+ghost use Rattle.lb_threads_core.specs.CellWords.{WasHealthy};
 
 use crate::balancing::Balancing;
 use crate::origin::Origin;
-use crate::readiness::Readiness;
+use crate::readiness::{Judged, Readiness};
 use crate::shown::Shown;
 use counted_slot::Fits;
 use lb_health_core::health_check::HealthCheck;
@@ -20,7 +21,8 @@ use lb_health_view::discovery::ServiceDiscovery;
 use lb_select_base::backend::Backend;
 use lb_select_base::refusal::Refusal;
 use lb_select_base::walk::BackendSelection;
-use lb_threads_core::ready_words::Said;
+use lb_threads_core::flag_words::Flagged;
+use lb_threads_core::marks::spread_of;
 use std::alloc::{AllocError, Global};
 use std::sync::{Arc, Wait};
 
@@ -80,24 +82,26 @@ impl<S: BackendSelection, D, R: KeyRule + Drop, C> KeptShown<S, D, R, C> {
         (*self.shown).generation()
     }
 
-    // What the word of a backend says.
+    // What the words say of a backend whose identity has this number.
     #[inline]
-    pub(crate) fn said(&self, backend: &Backend) -> Option<Said>
+    pub(crate) fn said(&self, backend: &Backend, spread: u64) -> Option<Judged>
         ensures { (b : BalancerValue D S.Config R) → IsKept R.gives b self.now.shown self.now.ready
-            → IfSome result (λ said. JudgedIn R.gives b (arc_value self.now.shown).generation backend.now said.ready) }
+            → IfSome result (λ judged. JudgedIn R.gives b (arc_value self.now.shown).generation backend.now judged.ready) }
     {
         match &self.ready {
-            Some(ready) => (**ready).words().said(backend),
+            Some(ready) => (**ready).said(backend, spread),
             None => None,
         }
     }
 
-    // Notes whether a backend is ready, for others.
-    pub(crate) fn note(&self, backend: &Backend, said: Said)
-        requires { IfSome self.now.ready (λ r. JudgedIn R.gives (arc_value r).balancer (arc_value r).number backend.now said.ready) }
+    // Notes the cell and the flag of a backend, and whether that cell is kept and healthy, for others.
+    pub(crate) fn note(&self, backend: &Backend, flagged: Flagged, healthy: bool)
+        requires flagged { IfSome self.now.ready (λ r. FlaggedIn (arc_value r).balancer (arc_value r).number backend.now flagged.cell
+            flagged.is_enabled) }
+        requires healthy { IfSome self.now.ready (λ r. WasHealthy R.gives (arc_value r).balancer.registry flagged.cell healthy) }
     {
         if let Some(ready) = &self.ready {
-            (**ready).words().note(backend, said);
+            (**ready).note(backend, flagged, healthy);
         }
     }
 
@@ -111,7 +115,7 @@ impl<S: BackendSelection, D, R: KeyRule + Drop, C> KeptShown<S, D, R, C> {
     // The members that have a word.
     pub(crate) fn marks(&self) -> &[Option<Backend>] {
         match &self.ready {
-            Some(ready) => (**ready).words().marks(),
+            Some(ready) => (**ready).marks(),
             None => &[],
         }
     }
@@ -157,9 +161,10 @@ impl<
         if !self.is_served(kept.generation()) {
             return None;
         }
-        let said = kept.said(backend)?;
-        if self.is_of_now(said.stamp) {
-            Some(said.ready)
+        let spread = spread_of(backend);
+        let judged = kept.said(backend, spread)?;
+        if self.is_of_now(spread, judged.stamp) {
+            Some(judged.ready)
         } else {
             None
         }

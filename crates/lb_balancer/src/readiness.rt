@@ -1,15 +1,22 @@
-//! Which members of a generation are ready, as words that selections load: each as it was found under the locks.
-ghost use Rattle.std.specs.Prelude.{◌≡◌, IfOk};
+//! Which members of a generation are ready, as words that selections load: one has a member's cell and flag as they were found under the
+//! locks, and the registry has one for the cell.
+ghost use Rattle.std.specs.Prelude.{◌≡◌, ◌&&◌, IfOk, IfSome};
+ghost use Rattle.std.specs.Arc.{arc_value};
+ghost use Rattle.lb_balancer.specs.History.{FlaggedIn, JudgedIn};
+ghost use Rattle.lb_threads_core.specs.CellWords.{WasHealthy};
 
 use crate::origin::Origin;
 use lb_health_core::keys::KeyRule;
 use lb_select_base::backend::Backend;
 use lb_select_base::walk::BackendSelection;
-use lb_threads_core::ready_words::{ReadyRule, ReadyWords};
+use lb_threads_core::cell_words::CellWords;
+use lb_threads_core::changes::Stamp;
+use lb_threads_core::flag_words::{FlagRule, FlagWords, Flagged};
 use std::alloc::{AllocError, Global};
 use std::collections::BTreeSet;
 use std::marker::Model;
 use std::snapshot::Snapshot;
+use std::sync::Arc;
 
 /// Of which balancer, and of which of its generations, words are.
 #[derive(Drop)]
@@ -26,34 +33,43 @@ impl<S: BackendSelection, D, R: KeyRule + Drop, C> Model for Generation<S, D, R,
     ghost view = { λ g. record { balancer = g.origin.value; number = g.number } };
 }
 
-/// Each word says whether a member was ready while the generation was served.
-pub struct OfReady {}
+/// Each word says which cell a member had while the generation was served, and whether it was enabled.
+pub struct OfFlags {}
 
-impl<S: BackendSelection, D, R: KeyRule + Drop, C> ReadyRule<Generation<S, D, R, C>> for OfReady {
-    ghost use Rattle.lb_balancer.specs.History.{JudgedIn};
-    ghost use Rattle.lb_balancer.specs.JudgedSame.{judged-same};
+impl<S: BackendSelection, D, R: KeyRule + Drop, C> FlagRule<Generation<S, D, R, C>> for OfFlags {
+    ghost use Rattle.lb_balancer.specs.FlaggedSame.{flagged-same};
+    ghost use Rattle.lb_balancer.specs.History.{FlaggedIn};
 
-    ghost told = { λ of b ready _. JudgedIn R.gives of.balancer of.number b ready };
+    ghost told = { λ of b cell enabled _. FlaggedIn of.balancer of.number b cell enabled };
 
-    ghost by_identity = { λ of b m ready is_newest same told. judged-same R.gives of.balancer of.number b m ready same told };
+    ghost by_identity = { λ of b m cell enabled is_newest same told. flagged-same of.balancer of.number b m cell enabled same told };
+}
+
+/// Whether a member is ready, and as of which changes of its flag.
+#[derive(Clone, Copy)]
+pub(crate) struct Judged {
+    pub(crate) ready: bool,
+    pub(crate) stamp: Stamp,
 }
 
 /// Which members of a generation are ready. Contracts see of which balancer, and of which of its generations.
 #[derive(Drop)]
 pub struct Readiness<S: BackendSelection, D, R: KeyRule + Drop, C> {
     generation: u64,
-    words: ReadyWords<Generation<S, D, R, C>, OfReady>,
+    flags: FlagWords<Generation<S, D, R, C>, OfFlags>,
+    cells: Arc<CellWords<R>>,
 }
 
 impl<S: BackendSelection, D, R: KeyRule + Drop, C> Model for Readiness<S, D, R, C> {
     ghost use Rattle.std.specs.Prelude.{◌≡◌};
+    ghost use Rattle.std.specs.Arc.{arc_value};
     ghost use Rattle.lb_balancer.specs.Kept.{GenerationValue};
 
     ghost Value = { GenerationValue D S.Config R };
 
-    ghost view = { λ r. r.words };
+    ghost view = { λ r. r.flags };
 
-    ghost invariant = { λ r. r.words.number ≡ r.generation };
+    ghost invariant = { λ r. (r.flags.number ≡ r.generation) × (arc_value r.cells ≡ r.flags.balancer.registry) };
 }
 
 impl<S: BackendSelection, D, R: KeyRule + Drop, C> Readiness<S, D, R, C> {
@@ -63,15 +79,21 @@ impl<S: BackendSelection, D, R: KeyRule + Drop, C> Readiness<S, D, R, C> {
         origin: &Origin<S, D, R, C>,
         generation: u64,
         members: &BTreeSet<Backend>,
+        cells: Arc<CellWords<R>>,
     ) -> Result<Readiness<S, D, R, C>, AllocError>
+        requires { arc_value cells ≡ origin.now.registry }
         ensures { IfOk result (λ r. r.balancer ≡ origin.now) }
     {
         let of = Generation {
             origin: Snapshot::of(origin),
             number: generation,
         };
-        let words = ReadyWords::new(alloc, members, &of)?;
-        Ok(Readiness { generation, words })
+        let flags = FlagWords::new(alloc, members, &of)?;
+        Ok(Readiness {
+            generation,
+            flags,
+            cells,
+        })
     }
 
     // The generation.
@@ -81,11 +103,38 @@ impl<S: BackendSelection, D, R: KeyRule + Drop, C> Readiness<S, D, R, C> {
         self.generation
     }
 
-    // The words.
+    // What the words say of a member whose identity has this number.
     #[inline]
-    pub(crate) fn words(&self) -> &ReadyWords<Generation<S, D, R, C>, OfReady>
-        ensures { result.now ≡ self.now }
+    pub(crate) fn said(&self, backend: &Backend, spread: u64) -> Option<Judged>
+        ensures { IfSome result (λ j. JudgedIn R.gives self.now.balancer self.now.number backend.now j.ready) }
     {
-        &self.words
+        let flagged = self.flags.said(backend, spread)?;
+        let healthy = self.cells.said(flagged.cell)?;
+        Some(judged_of(flagged, healthy))
+    }
+
+    // Notes the cell and the flag of a member, and whether that cell is kept and healthy.
+    pub(crate) fn note(&self, backend: &Backend, flagged: Flagged, healthy: bool)
+        requires flagged { FlaggedIn self.now.balancer self.now.number backend.now flagged.cell flagged.is_enabled }
+        requires healthy { WasHealthy R.gives self.now.balancer.registry flagged.cell healthy }
+    {
+        self.flags.note(backend, flagged);
+        self.cells.note(flagged.cell, healthy);
+    }
+
+    // The members that have a word.
+    pub(crate) fn marks(&self) -> &[Option<Backend>] {
+        self.flags.marks()
+    }
+}
+
+// Whether a member with this cell and this flag is ready, where the cell is this healthy.
+#[inline]
+fn judged_of(flagged: Flagged, healthy: bool) -> Judged
+    ensures { result.ready ≡ (flagged.is_enabled && healthy) }
+{
+    Judged {
+        ready: flagged.is_enabled && healthy,
+        stamp: flagged.stamp,
     }
 }

@@ -15,7 +15,7 @@ ghost use Rattle.lb_balancer_core.specs.Internal.PlainLaws.{drawn_keeps};
 
 use crate::build::RefusedJob;
 use crate::plain::PlainPort;
-use crate::port::{GroupPort, TakesBack};
+use crate::port::{GroupPort, SchedulePort, SelectPort, TakesBuilds, TakesReaders, WorkPort};
 use crate::turn::{Turn, worker_turn};
 use lb_health_core::keys::KeyRule;
 use lb_health_view::view::Settings;
@@ -70,86 +70,11 @@ impl<'c, 'x, 'g, 'w, 'l, S: BackendSelection, R: KeyRule + Drop, G: Rng> PlainPo
     }
 }
 
-impl<'c, 'x, 'g, 'w, 'l, S: BackendSelection, R: KeyRule + Drop, G: Rng> TakesBack<
-    RefusedJob<S>,
-    Built<S>,
-    Reader<S>,
-> for PlainPort<'c, 'x, 'g, 'w, 'l, S, R, G> {
-    ghost owns_refused = { λ p r. OwnsJob p.core.now r.task };
-
-    ghost owns_built = { λ p b. OwnsJob p.core.now b.task };
-
-    ghost owns_reader = { λ p r. OwnsReader p.core.now r };
-
-    ghost failed = { λ p r now q. IsFailed R.gives p.core.now p.registry.now p.gate.now r.task now (Ok tt) q.core.now q.registry.now
-        q.gate.now
-        × (q.generator.now ≡ p.generator.now) × SameLent p q };
-
-    ghost published = { λ p b t q. IsPublished p.core.now b (Ok t) q.core.now
-        × (q.registry.now ≡ p.registry.now) × (q.gate.now ≡ p.gate.now)
-        × (q.generator.now ≡ p.generator.now) × SameLent p q };
-
-    ghost left = { λ p r q. IsLeft p.core.now r (Ok tt) q.core.now
-        × (q.registry.now ≡ p.registry.now) × (q.gate.now ≡ p.gate.now)
-        × (q.generator.now ≡ p.generator.now) × SameLent p q };
-
-    fn fail(&mut self, refused: RefusedJob<S>, now: u128) {
-        match self
-            .core
-            .fail(refused.into_job(), self.registry, self.gate, now)
-        {
-            Ok(()) => {}
-            Err(_job) => unreachable!(),
-        }
-    }
-
-    fn publish(&mut self, built: Built<S>) -> Publication {
-        match self.core.publish(built) {
-            Ok(told) => told,
-            Err(_built) => unreachable!(),
-        }
-    }
-
-    fn leave(&mut self, reader: Reader<S>) {
-        match self.core.leave(reader) {
-            Ok(()) => {}
-            Err(_reader) => unreachable!(),
-        }
-    }
-}
-
-impl<'c, 'x, 'g, 'w, 'l, S: BackendSelection, R: KeyRule + Drop, G: Rng> GroupPort<S>
+impl<'c, 'x, 'g, 'w, 'l, S: BackendSelection, R: KeyRule + Drop, G: Rng> SchedulePort
     for PlainPort<'c, 'x, 'g, 'w, 'l, S, R, G> {
-    ghost owns_job = { λ p t. OwnsJob p.core.now t };
-
     ghost scheduled = { λ p ms settings now r q. IsScheduled R.gives p.core.now p.registry.now ms settings now r q.core.now q.registry.now
         × (q.gate.now ≡ p.gate.now)
         × (q.generator.now ≡ p.generator.now) × SameLent p q };
-
-    ghost asked = { λ p slot now r q. IsAsked p.core.now p.gate.now slot now r q.core.now q.gate.now
-        × (q.registry.now ≡ p.registry.now)
-        × (q.generator.now ≡ p.generator.now) × SameLent p q };
-
-    ghost entered = { λ p slot r q. IsEntered p.core.now slot r q.core.now
-        × (q.registry.now ≡ p.registry.now) × (q.gate.now ≡ p.gate.now)
-        × (q.generator.now ≡ p.generator.now) × SameLent p q };
-
-    ghost readies = { λ p r b a q. IsReadyFor R.gives p.core.now p.registry.now r b a × (q.core.now ≡ p.core.now)
-        × (q.registry.now ≡ p.registry.now) × (q.gate.now ≡ p.gate.now)
-        × (q.generator.now ≡ p.generator.now) × SameLent p q };
-
-    ghost draws = { λ p r d q. IsDrawn p.core.now (G.stream p.generator.now) (load_in p.loads.now) r d q.core.now (G.stream q.generator.now)
-        × (q.registry.now ≡ p.registry.now) × (q.gate.now ≡ p.gate.now) × SameLent p q };
-
-    ghost taken = { λ p slot r q. IsTaken p.core.now slot r q.core.now
-        × (q.registry.now ≡ p.registry.now) × (q.gate.now ≡ p.gate.now)
-        × (q.generator.now ≡ p.generator.now) × SameLent p q };
-
-    ghost reported = { λ p slot permit q. IsReported R.gives p.core.now p.registry.now p.gate.now slot permit (Ok tt) q.core.now
-        q.registry.now q.gate.now
-        × (q.generator.now ≡ p.generator.now) × SameLent p q };
-
-    ghost owns_permit = { λ p slot permit. OwnsPermit p.core.now slot permit };
 
     fn schedule(
         &mut self,
@@ -161,12 +86,36 @@ impl<'c, 'x, 'g, 'w, 'l, S: BackendSelection, R: KeyRule + Drop, G: Rng> GroupPo
         self.core
             .schedule(alloc, self.registry, discovered, settings, now)
     }
+}
 
-    fn ask(&mut self, slot: usize, now: u128) -> Result<Ask<S>, Refusal> {
-        // `past()` is for the prover alone: it shows it that some history explains the group, and does nothing at run time.
-        self.core.past();
-        self.core.ask(slot, self.gate, now)
+impl<'c, 'x, 'g, 'w, 'l, S: BackendSelection, R: KeyRule + Drop, G: Rng> TakesReaders<Reader<S>>
+    for PlainPort<'c, 'x, 'g, 'w, 'l, S, R, G> {
+    ghost owns_reader = { λ p r. OwnsReader p.core.now r };
+
+    ghost left = { λ p r q. IsLeft p.core.now r (Ok tt) q.core.now
+        × (q.registry.now ≡ p.registry.now) × (q.gate.now ≡ p.gate.now)
+        × (q.generator.now ≡ p.generator.now) × SameLent p q };
+
+    fn leave(&mut self, reader: Reader<S>) {
+        match self.core.leave(reader) {
+            Ok(()) => {}
+            Err(_reader) => unreachable!(),
+        }
     }
+}
+
+impl<'c, 'x, 'g, 'w, 'l, S: BackendSelection, R: KeyRule + Drop, G: Rng> SelectPort<S>
+    for PlainPort<'c, 'x, 'g, 'w, 'l, S, R, G> {
+    ghost entered = { λ p slot r q. IsEntered p.core.now slot r q.core.now
+        × (q.registry.now ≡ p.registry.now) × (q.gate.now ≡ p.gate.now)
+        × (q.generator.now ≡ p.generator.now) × SameLent p q };
+
+    ghost readies = { λ p r b a q. IsReadyFor R.gives p.core.now p.registry.now r b a × (q.core.now ≡ p.core.now)
+        × (q.registry.now ≡ p.registry.now) × (q.gate.now ≡ p.gate.now)
+        × (q.generator.now ≡ p.generator.now) × SameLent p q };
+
+    ghost draws = { λ p r d q. IsDrawn p.core.now (G.stream p.generator.now) (load_in p.loads.now) r d q.core.now (G.stream q.generator.now)
+        × (q.registry.now ≡ p.registry.now) × (q.gate.now ≡ p.gate.now) × SameLent p q };
 
     fn enter(&mut self, slot: usize) -> Result<Reader<S>, Refusal> {
         self.core.past();
@@ -189,6 +138,70 @@ impl<'c, 'x, 'g, 'w, 'l, S: BackendSelection, R: KeyRule + Drop, G: Rng> GroupPo
         self.loads.get(backend)
     }
 
+    ghost draws_keep = { λ p r d q drawn own. drawn_keeps p.core.now q.core.now (G.stream p.generator.now) (G.stream q.generator.now)
+        (load_in p.loads.now) r d drawn.0 own };
+
+    ghost readies_keep = { λ p r b a q told own. subst (λ v. OwnsReader v r) (sym told.1) own };
+}
+
+impl<'c, 'x, 'g, 'w, 'l, S: BackendSelection, R: KeyRule + Drop, G: Rng> TakesBuilds<
+    RefusedJob<S>,
+    Built<S>,
+> for PlainPort<'c, 'x, 'g, 'w, 'l, S, R, G> {
+    ghost owns_refused = { λ p r. OwnsJob p.core.now r.task };
+
+    ghost owns_built = { λ p b. OwnsJob p.core.now b.task };
+
+    ghost failed = { λ p r now q. IsFailed R.gives p.core.now p.registry.now p.gate.now r.task now (Ok tt) q.core.now q.registry.now
+        q.gate.now
+        × (q.generator.now ≡ p.generator.now) × SameLent p q };
+
+    ghost published = { λ p b t q. IsPublished p.core.now b (Ok t) q.core.now
+        × (q.registry.now ≡ p.registry.now) × (q.gate.now ≡ p.gate.now)
+        × (q.generator.now ≡ p.generator.now) × SameLent p q };
+
+    fn fail(&mut self, refused: RefusedJob<S>, now: u128) {
+        match self
+            .core
+            .fail(refused.into_job(), self.registry, self.gate, now)
+        {
+            Ok(()) => {}
+            Err(_job) => unreachable!(),
+        }
+    }
+
+    fn publish(&mut self, built: Built<S>) -> Publication {
+        match self.core.publish(built) {
+            Ok(told) => told,
+            Err(_built) => unreachable!(),
+        }
+    }
+}
+
+impl<'c, 'x, 'g, 'w, 'l, S: BackendSelection, R: KeyRule + Drop, G: Rng> WorkPort<S>
+    for PlainPort<'c, 'x, 'g, 'w, 'l, S, R, G> {
+    ghost owns_job = { λ p t. OwnsJob p.core.now t };
+
+    ghost asked = { λ p slot now r q. IsAsked p.core.now p.gate.now slot now r q.core.now q.gate.now
+        × (q.registry.now ≡ p.registry.now)
+        × (q.generator.now ≡ p.generator.now) × SameLent p q };
+
+    ghost taken = { λ p slot r q. IsTaken p.core.now slot r q.core.now
+        × (q.registry.now ≡ p.registry.now) × (q.gate.now ≡ p.gate.now)
+        × (q.generator.now ≡ p.generator.now) × SameLent p q };
+
+    ghost reported = { λ p slot permit q. IsReported R.gives p.core.now p.registry.now p.gate.now slot permit (Ok tt) q.core.now
+        q.registry.now q.gate.now
+        × (q.generator.now ≡ p.generator.now) × SameLent p q };
+
+    ghost owns_permit = { λ p slot permit. OwnsPermit p.core.now slot permit };
+
+    fn ask(&mut self, slot: usize, now: u128) -> Result<Ask<S>, Refusal> {
+        // `past()` is for the prover alone: it shows it that some history explains the group, and does nothing at run time.
+        self.core.past();
+        self.core.ask(slot, self.gate, now)
+    }
+
     fn take_retired(&mut self, slot: usize) -> Result<Retired<S>, Refusal> {
         self.core.past();
         self.core.take_retired(slot)
@@ -201,12 +214,10 @@ impl<'c, 'x, 'g, 'w, 'l, S: BackendSelection, R: KeyRule + Drop, G: Rng> GroupPo
         }
     }
 
-    ghost draws_keep = { λ p r d q drawn own. drawn_keeps p.core.now q.core.now (G.stream p.generator.now) (G.stream q.generator.now)
-        (load_in p.loads.now) r d drawn.0 own };
-
-    ghost readies_keep = { λ p r b a q told own. subst (λ v. OwnsReader v r) (sym told.1) own };
-
     ghost built_of = { λ p t ended own. own };
 
     ghost refused_of = { λ p t e own. own };
 }
+
+impl<'c, 'x, 'g, 'w, 'l, S: BackendSelection, R: KeyRule + Drop, G: Rng> GroupPort<S>
+    for PlainPort<'c, 'x, 'g, 'w, 'l, S, R, G> {}

@@ -3,7 +3,7 @@
 ghost use Rattle.std.specs.Prelude.{◌≡◌};
 ghost use Rattle.lb_balancer_core.specs.Looks.{Answers, SelectsBy, SelectedThrough};
 
-use crate::port::GroupPort;
+use crate::port::SelectPort;
 use crate::words::ReaderWords;
 use lb_rebuild_core::retired::Reader;
 use lb_select_base::backend::Backend;
@@ -20,7 +20,7 @@ use std::alloc::Global;
 /// # Errors
 ///
 /// `OutOfMemory` where memory is refused, and what the port refuses for the entry. A reader that has entered leaves in any case.
-pub fn select_through<S: BackendSelection, P: GroupPort<S>, F: Fn(&Backend, bool) -> bool>(
+pub fn select_through<S: BackendSelection, P: SelectPort<S>, F: Fn(&Backend, bool) -> bool>(
     alloc: Global,
     port: &mut P,
     slot: usize,
@@ -50,7 +50,7 @@ pub fn select_through<S: BackendSelection, P: GroupPort<S>, F: Fn(&Backend, bool
 /// # Errors
 ///
 /// `OutOfMemory` where memory is refused.
-pub fn select_for<S: BackendSelection, P: GroupPort<S>, F: Fn(&Backend, bool) -> bool>(
+pub fn select_for<S: BackendSelection, P: SelectPort<S>, F: Fn(&Backend, bool) -> bool>(
     alloc: Global,
     port: &mut P,
     reader: &Reader<S>,
@@ -76,7 +76,7 @@ fn lent_by<'r, S: BackendSelection>(reader: &'r Reader<S>) -> &'r S
 }
 
 // The first of the walk that is accepted. What is refused is not copied.
-fn first_accepted<'p, 'r, S: BackendSelection, P: GroupPort<S>, F: Fn(&Backend, bool) -> bool>(
+fn first_accepted<'p, 'r, S: BackendSelection, P: SelectPort<S>, F: Fn(&Backend, bool) -> bool>(
     alloc: Global,
     words: &mut ReaderWords<'p, 'r, S, P>,
     key: &[u8],

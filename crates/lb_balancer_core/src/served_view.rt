@@ -1,13 +1,13 @@
 //! A view with the selector that is built of its newest membership. Balancers stand on it: plain ones, and those that threads share. Their
 //! calls build first and drop last; here nothing is built, and no selector is dropped, so that each call may be made under a lock.
-ghost use Rattle.std.specs.Prelude.{◌≡◌, ◌⊎◌, List, IfOk, OnErr, Err, true, unwrap_or};
+ghost use Rattle.std.specs.Prelude.{◌≡◌, ◌⊎◌, List, IfOk, IfSome, OnErr, Err, true, unwrap_or};
 ghost use Rattle.std.specs.Arc.{arc_value};
 ghost use Rattle.lb_select_base.specs.Memberships.{same_members};
 ghost use Rattle.lb_select_base.specs.Refusals.{Refuses};
 ghost use Rattle.lb_health_core.specs.Registry.{KeepsHistory};
 ghost use Rattle.lb_health_view.specs.Causes.{IsRegistryRefusal};
 ghost use Rattle.lb_health_view.specs.Views.{IsFounded, IsViewAfter, HoldsOfBoth};
-ghost use Rattle.lb_health_view.specs.RegistrySide.{settings_of, view_updated};
+ghost use Rattle.lb_health_view.specs.RegistrySide.{HasCellIn, settings_of, view_updated};
 ghost use Rattle.lb_health_view.specs.ViewEvents.{ViewEvent, generation_after, membership_after};
 ghost use Rattle.lb_balancer_core.specs.Balancer.{IsJudged};
 ghost use Rattle.lb_balancer_core.specs.ServedViews.{IsLeastCause, IsRenewed, SetsFlag, Takes, TakesIn};
@@ -204,11 +204,14 @@ impl<S: BackendSelection> ServedView<S> {
         self.view.ready(registry, backend)
     }
 
-    /// Returns the number of the cell that a backend has in the newest membership, if it has one there.
+    /// Returns the number of the cell that a backend has in the newest membership, and whether the backend is enabled.
     ///
-    /// It is for who counts changes by cell. It takes no memory.
-    pub fn cell_of(&self, backend: &Backend) -> Option<u64> {
-        self.view.cell_in(self.view.generation(), backend)
+    /// `None` where the newest membership doesn't list it. It takes no memory.
+    pub fn cell_and_flag(&self, backend: &Backend) -> Option<(u64, bool)>
+        ensures { (views : List ViewEvent) → IsViewAfter views self.now.view
+            → IfSome result (λ r. HasCellIn views (generation_after views) backend.now r.0 r.1) }
+    {
+        self.view.cell_and_flag(self.view.generation(), backend)
     }
 
     /// Enables or disables a backend that the newest membership lists, by identity; another is left alone.

@@ -2,7 +2,7 @@
 ghost use Rattle.lb_balancer_core.specs.Through.{Turned};
 
 use crate::build::build;
-use crate::port::GroupPort;
+use crate::port::WorkPort;
 use lb_rebuild_core::answers::{Ask, Publication};
 use lb_rebuild_core::end_source::EndSource;
 use lb_select_base::moments::MomentSource;
@@ -39,7 +39,7 @@ pub enum Turn {
 /// # Errors
 ///
 /// What the port refuses; but that no retired selector is there, or that it is still read, is passed over.
-pub fn worker_turn<S: BackendSelection, P: GroupPort<S>, K: MomentSource + EndSource<S>>(
+pub fn worker_turn<S: BackendSelection, P: WorkPort<S>, K: MomentSource + EndSource<S>>(
     alloc: Global,
     port: &mut P,
     slot: usize,

@@ -1,11 +1,10 @@
 //! An update of a group by its port: what a discovery found is scheduled.
 ghost use Rattle.lb_balancer_core.specs.Through.{UpdatedThrough};
 
-use crate::port::GroupPort;
+use crate::port::SchedulePort;
 use lb_health_view::discovery::ServiceDiscovery;
 use lb_select_base::moments::MomentSource;
 use lb_select_base::refusal::Refusal;
-use lb_select_base::walk::BackendSelection;
 use std::alloc::Global;
 
 /// Discovers, and schedules once what was discovered, at the clock's second reading. Returns the newest generation after it.
@@ -13,7 +12,7 @@ use std::alloc::Global;
 /// # Errors
 ///
 /// What the discovery is refused for, and then no call is made; and what the port refuses.
-pub fn update_through<S: BackendSelection, P: GroupPort<S>, D: ServiceDiscovery, K: MomentSource>(
+pub fn update_through<P: SchedulePort, D: ServiceDiscovery, K: MomentSource>(
     alloc: Global,
     port: &mut P,
     discovery: &D,

@@ -1,7 +1,7 @@
 //! The words of one reader: what a walk draws is drawn through the port, for the reader.
 ghost use Rattle.std.specs.Prelude.{◌≡◌};
 
-use crate::port::GroupPort;
+use crate::port::SelectPort;
 use lb_rebuild_core::retired::Reader;
 use lb_select_base::backend::Backend;
 use lb_select_base::walk::BackendSelection;
@@ -14,7 +14,7 @@ pub(crate) struct ReaderWords<'p, 'r, S: BackendSelection, P> {
     pub(crate) reader: &'r Reader<S>,
 }
 
-impl<'p, 'r, S: BackendSelection, P: GroupPort<S>> WordSource for ReaderWords<'p, 'r, S, P> {
+impl<'p, 'r, S: BackendSelection, P: SelectPort<S>> WordSource for ReaderWords<'p, 'r, S, P> {
     // The reader stays the same, and so does the place where the port is.
     ghost gives = { λ a d b. (b.reader.now ≡ a.reader.now) × (b.port.ghost_name ≡ a.port.ghost_name)
         × P.draws a.port.now a.reader.now d b.port.now };

@@ -100,20 +100,69 @@ where
             notifier.is_some(),
         );
         let own = *clock;
-        let start = || {
-            let _ = start_workers(rt, alloc, &self.shared, own);
+        let starts = |what: Starts| match what {
+            Starts::Workers => {
+                let _ = self.start_workers(rt, alloc, own);
+            }
+            Starts::Checks => {
+                let _ = self.run_health_check(rt, alloc);
+            }
         };
-        let pass = || {
-            let _ = self.run_health_check(rt, alloc);
-        };
-        run_over(rt, self, &start, &pass, alloc, clock, watch, notifier, run);
+        run_over(rt, self, &starts, alloc, clock, watch, notifier, run);
     }
 }
 
-// Drives the run of a group with this start of workers and this pass of checks.
+// The calls of a group that its run makes. The port of the run knows no more of the group, so the checker compares the group's type for
+// these two alone.
+pub(crate) trait RunningGroup<W, K> {
+    ghost use Rattle.std.specs.Prelude.{ℕ, Result};
+    ghost use Rattle.lb_select_base.specs.declared.refusal.Refusal.{Refusal};
+
+    // Group, clock before, answer, clock after.
+    ghost updates: { Self → K → Result ℕ Refusal → K → Type 0 };
+
+    // Updates the group, as `LoadBalancerGroup::update` does.
+    fn update_by(&self, rt: &W, alloc: Global, clock: &mut K) -> Result<u64, Refusal>
+        ensures { updates self.now clock.old result clock.new };
+
+    // The least generation that a slot serves.
+    fn least_generation(&self, rt: &W) -> u64;
+}
+
+impl<
+    S: BackendSelection,
+    D: ServiceDiscovery + Drop,
+    R: KeyRule + Drop,
+    C: HealthCheck + Drop,
+    W: Wait,
+    K: MomentSource,
+> RunningGroup<W, K> for LoadBalancerGroup<S, D, R, C> {
+    ghost use Rattle.std.specs.Arc.{arc_value};
+    ghost use Rattle.lb_threads_group.specs.Group.{UpdatedUnder};
+    ghost use Rattle.lb_health_view.specs.Discoveries.{FoundBy};
+
+    ghost updates = { λ g before r after. UpdatedUnder R.gives K.reads (FoundBy D.finds) g.discovery before (arc_value g.shared) r after };
+
+    fn update_by(&self, rt: &W, alloc: Global, clock: &mut K) -> Result<u64, Refusal> {
+        self.update(rt, alloc, clock)
+    }
+
+    fn least_generation(&self, rt: &W) -> u64 {
+        self.least_served(rt)
+    }
+}
+
+// What a run starts threads for. One closure does both: for each the checker compares the group's whole type several times.
+enum Starts {
+    // The workers that are missing.
+    Workers,
+    // A pass of checks.
+    Checks,
+}
+
+// Drives the run of a group with this start of threads. `run_on` does it without the group's type.
 fn run_over<
-    F: Fn(),
-    G: Fn(),
+    F: Fn(Starts),
     S: BackendSelection,
     W: Log + Wait,
     D: ServiceDiscovery + Drop,
@@ -123,8 +172,7 @@ fn run_over<
 >(
     rt: &W,
     group: &LoadBalancerGroup<S, D, R, C>,
-    start: &F,
-    pass: &G,
+    starts: &F,
     alloc: Global,
     clock: &mut K,
     watch: &ShutdownWatch,
@@ -132,15 +180,29 @@ fn run_over<
     run: GroupRun,
 )
     requires fresh { IsAfter run [] }
-    requires starts { (start : F) → F.IsAlwaysCallable start }
-    requires passes { (pass : G) → G.IsAlwaysCallable pass }
+    requires starts { (starts : F) → F.IsAlwaysCallable starts }
 {
-    start();
+    run_on(rt, group, starts, alloc, clock, watch, notifier, run);
+}
+
+fn run_on<F: Fn(Starts), U: RunningGroup<W, K>, W: Log + Wait, K: MomentSource>(
+    rt: &W,
+    group: &U,
+    starts: &F,
+    alloc: Global,
+    clock: &mut K,
+    watch: &ShutdownWatch,
+    notifier: Option<ServiceReadyNotifier>,
+    run: GroupRun,
+)
+    requires fresh { IsAfter run [] }
+    requires starts { (starts : F) → F.IsAlwaysCallable starts }
+{
+    starts(Starts::Workers);
     let mut port = LockedRun {
         rt,
         group,
-        start,
-        pass,
+        starts,
         alloc,
         clock,
         watch,
@@ -150,19 +212,12 @@ fn run_over<
     drive(rt, run, &mut port);
 }
 
-// A group that runs, as the port that drives it. The start of workers and a pass of checks are closures, since they start threads.
+// A group that runs, as the port that drives it. The start of workers and a pass of checks are a closure, since they start threads.
 #[derive(Drop)]
-struct LockedRun<'r, 'g, 's, 'p, 'c, 'w, F, G, S, W, D, R, C, K>
-where
-    S: BackendSelection,
-    D: Drop,
-    R: KeyRule + Drop,
-    C: HealthCheck + Drop,
-{
+struct LockedRun<'r, 'g, 's, 'c, 'w, F, U, W, K> {
     rt: &'r W,
-    group: &'g LoadBalancerGroup<S, D, R, C>,
-    start: &'s F,
-    pass: &'p G,
+    group: &'g U,
+    starts: &'s F,
     alloc: Global,
     clock: &'c mut K,
     watch: &'w ShutdownWatch,
@@ -176,23 +231,15 @@ impl<
     'r,
     'g,
     's,
-    'p,
     'c,
     'w,
-    F: Fn(),
-    G: Fn(),
-    S: BackendSelection,
+    F: Fn(Starts),
+    U: RunningGroup<W, K>,
     W: Log + Wait,
-    D: ServiceDiscovery + Drop,
-    R: KeyRule + Drop,
-    C: HealthCheck + Drop,
     K: MomentSource,
-> RunPort for LockedRun<'r, 'g, 's, 'p, 'c, 'w, F, G, S, W, D, R, C, K> {
+> RunPort for LockedRun<'r, 'g, 's, 'c, 'w, F, U, W, K> {
     ghost use Rattle.std.specs.Prelude.{◌≡◌, None};
-    ghost use Rattle.std.specs.Arc.{arc_value};
     ghost use Rattle.lb_background.specs.Driven.{Sleeps};
-    ghost use Rattle.lb_threads_group.specs.Group.{UpdatedUnder};
-    ghost use Rattle.lb_health_view.specs.Discoveries.{FoundBy};
     ghost use Rattle.lb_balancer_group.specs.Readiness.{EndsSleep};
 
     ghost moments = { λ p moment q. K.reads p.clock.now moment q.clock.now };
@@ -201,10 +248,9 @@ impl<
 
     ghost looks = { λ p _ q. q.clock.now ≡ p.clock.now };
 
-    ghost can_do = { λ _. ((start : F) → F.IsAlwaysCallable start) × ((pass : G) → G.IsAlwaysCallable pass) };
+    ghost can_do = { λ _. (starts : F) → F.IsAlwaysCallable starts };
 
-    ghost updates = { λ p r q. UpdatedUnder R.gives K.reads (FoundBy D.finds) p.group.now.discovery p.clock.now
-        (arc_value p.group.now.shared) r q.clock.now };
+    ghost updates = { λ p r q. U.updates p.group.now p.clock.now r q.clock.now };
 
     ghost checks = { λ p q. q.clock.now ≡ p.clock.now };
 
@@ -217,7 +263,7 @@ impl<
     }
 
     fn reading(&mut self) -> u64 {
-        self.told = self.group.least_served(self.rt);
+        self.told = self.group.least_generation(self.rt);
         self.told
     }
 
@@ -226,7 +272,7 @@ impl<
     }
 
     fn update(&mut self) -> Result<u64, Refusal> {
-        let told = self.group.update(self.rt, self.alloc, self.clock);
+        let told = self.group.update_by(self.rt, self.alloc, self.clock);
         if let Err(refusal) = told {
             error!(self.rt; "load balancer group update failed: {refusal}");
         }
@@ -234,7 +280,7 @@ impl<
     }
 
     fn check(&mut self) {
-        (self.pass)();
+        (self.starts)(Starts::Checks);
     }
 
     fn tell_ready(&mut self) {
@@ -256,9 +302,9 @@ impl<
             let now = self.clock.now();
             let has_come = moment <= now;
             if has_come
-                || (self.notifier.is_some() && self.group.least_served(self.rt) != self.told)
+                || (self.notifier.is_some() && self.group.least_generation(self.rt) != self.told)
             {
-                (self.start)();
+                (self.starts)(Starts::Workers);
                 return if has_come {
                     Event::Woke
                 } else {

@@ -1,5 +1,5 @@
 -- What the calls of a view do to its own history and to that of its registry, and when a backend is ready.
-use Rattle.std.specs.Prelude.{◌≡◌, ℕ, ◌+◌, Bool, true, ◌==◌, List, [], ◌∷◌, map, if◌then◌else◌}
+use Rattle.std.specs.Prelude.{◌≡◌, ℕ, ◌+◌, Bool, true, ◌==◌, List, [], ◌∷◌, Some, map, if◌then◌else◌}
 use Rattle.std.specs.List.{list_any}
 use Rattle.std.specs.Option.{IsSomeAnd}
 use Rattle.lb_select_base.specs.AddressText.{bare_member}
@@ -69,6 +69,16 @@ pub record IsReadyIn (key_of : Member → Member) (views : List ViewEvent) (even
   pub enabled : flag_after views b ≡ true
   pub healthy : IsHealthyIn key_of events b s
 
--- the same in the snapshot of a generation, which has to live
+-- a snapshot lists a backend, has this cell for it, and the backend's flag is this
+pub record HasCell (views : List ViewEvent) (b : Member) (c : ℕ) (enabled : Bool) (s : SnapshotValue) : Type 0 where
+  pub listed : list_any (same_member b) s.members ≡ true
+  pub flag : flag_after views b ≡ enabled
+  pub cell : value_at s.cells b ≡ Some c
+
+-- the same of the snapshot of a generation, which lives
+abbrev pub HasCellIn : List ViewEvent → ℕ → Member → ℕ → Bool → Type 0
+HasCellIn views g b c enabled = IsSomeAnd (snapshot_at g (snapshots_after views)) (HasCell views b c enabled)
+
+-- whether a backend is ready in the snapshot of a generation, which has to live
 abbrev pub IsReady : (Member → Member) → List ViewEvent → List registry.Event → ℕ → Member → Type 0
 IsReady key_of views events g b = IsSomeAnd (snapshot_at g (snapshots_after views)) (IsReadyIn key_of views events b)

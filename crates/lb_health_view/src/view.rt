@@ -1,7 +1,7 @@
 //! The view of a registry: a membership in numbered generations, the snapshots that live, and the flags of their backends. Contracts
 //! describe it by the list of its events, newest first.
 ghost use Rattle.std.specs.Prelude.{◌≡◌, ◌⊎◌, ◌+◌, ◌<◌, ◌^◌, ◌∷◌, [], All, IfOk, OnOk, OnErr, unwrap_or};
-ghost use Rattle.std.specs.Prelude.{IsSome, IsTrue, MatchOption, Err, List, ℕ, true, false, ◌↔◌, ◌≤◌};
+ghost use Rattle.std.specs.Prelude.{IfSome, IsSome, IsTrue, MatchOption, Err, List, ℕ, true, false, ◌↔◌, ◌≤◌};
 ghost use Rattle.std.specs.Result.{result_map_both};
 ghost use Rattle.std.specs.List.{list_any, list_all};
 ghost use Rattle.std.specs.Arc.{arc_value};
@@ -17,7 +17,7 @@ ghost use Rattle.lb_health_view.specs.ViewEvents.{flag_after};
 ghost use Rattle.lb_health_view.specs.Updates.{IsViewUpdated, ViewRefuses};
 ghost use Rattle.lb_health_view.specs.Views.{IsViewAfter, Flags, HoldsOfBoth};
 ghost use Rattle.lb_health_view.specs.RegistrySide.{lives, registry_released, settings_of, after_settings, view_changed, registry_changed};
-ghost use Rattle.lb_health_view.specs.RegistrySide.{IsHealthyIn, IsReadyIn, IsReady};
+ghost use Rattle.lb_health_view.specs.RegistrySide.{HasCell, HasCellIn, IsHealthyIn, IsReadyIn, IsReady};
 ghost use Rattle.lb_health_core.specs.Registry.{HasOwnCells, IsRegistryAfter, IsGrowthRefusal, HoldsOf};
 ghost use Rattle.lb_health_core.specs.RegistryCalls.{IsRegistered};
 ghost use Rattle.lb_health_core.specs.RegistryEvents.{Updated, Applied, has_view, views_after, cells_given};
@@ -329,15 +329,35 @@ impl ViewCore {
         }
     }
 
-    /// Returns the number of the cell that a backend has in the snapshot of this generation, if it has one there.
+    /// Returns the number of the cell that a backend has in the snapshot of this generation, and whether the backend is enabled.
     ///
-    /// It is for who counts changes by cell. It takes no memory.
-    pub fn cell_in(&self, generation: u64, backend: &Backend) -> Option<u64> {
+    /// `None` where no such snapshot lives, or it doesn't list the backend. The backend is ready there while it is enabled and that cell
+    /// is kept and healthy. It takes no memory.
+    pub fn cell_and_flag(&self, generation: u64, backend: &Backend) -> Option<(u64, bool)>
+        ensures { (views : List ViewEvent) → IsViewAfter views self.now
+            → IfSome result (λ r. HasCellIn views generation backend.now r.0 r.1) }
+    {
         if self.current.generation == generation {
-            return self.current.cells.get(backend);
+            return self.cell_of(&self.current, backend);
         }
-        let place = place_of(self.earlier.as_slice(), generation)?;
-        self.earlier[place].cells.get(backend)
+        match place_of(self.earlier.as_slice(), generation) {
+            Some(place) => self.cell_of(&self.earlier[place], backend),
+            None => None,
+        }
+    }
+
+    // The cell that one of the snapshots has for a backend, and whether the backend is enabled.
+    fn cell_of(&self, snapshot: &ViewSnapshot, backend: &Backend) -> Option<(u64, bool)>
+        ensures { (views : List ViewEvent) → IsViewAfter views self.now → HasOwnCells (snapshot_of snapshot.now).members
+            (snapshot_of snapshot.now).cells → (list_any (same_member backend.now) (snapshot_of snapshot.now).members ≡ true
+            → listed views backend.now ≡ true)
+            → IfSome result (λ r. HasCell views backend.now r.0 r.1 (snapshot_of snapshot.now)) }
+    {
+        // The cells are those of members alone, so one search finds both.
+        match snapshot.cells.get(backend) {
+            Some(cell) => Some((cell, self.is_enabled(backend))),
+            None => None,
+        }
     }
 
     // Whether a backend is ready in one of the snapshots.

@@ -1,7 +1,7 @@
 //! A group joined with its view: a membership reaches both or neither, and each slot holds the snapshots that it has in use.
 //! A call tests all that it can refuse for before it changes anything; builds run elsewhere, between `ask` and `publish`.
 ghost use Rattle.std.specs.Prelude.{◌≡◌, ◌≢◌, ◌↔◌, ◌<◌, ◌+◌, ◌∷◌, [], true, map, replicate, None, Ok, Err};
-ghost use Rattle.std.specs.Prelude.{length, IfOk, IfErr, IsTrue, OnErr, slice_get};
+ghost use Rattle.std.specs.Prelude.{length, IfOk, IfErr, IfSome, IsTrue, OnErr, slice_get};
 ghost use Rattle.std.specs.Arc.{arc_value};
 ghost use Rattle.lb_select_base.specs.Loads.{load_in};
 ghost use Rattle.lb_select_base.specs.Refusals.{least};
@@ -12,7 +12,7 @@ ghost use Rattle.lb_rebuild_core.specs.SlotsHistory.{extra, flight_after, is_ext
 ghost use Rattle.lb_rebuild_core.specs.Values.{configs_of};
 ghost use Rattle.lb_rebuild_core.specs.Stands.{Made, After as AfterGroup, counts_after};
 ghost use Rattle.lb_rebuild_core.specs.SlotsCalls.{schedule_refusal, Prepares, FitsIfThere, at_slot};
-ghost use Rattle.lb_health_view.specs.RegistrySide.{IsReady, settings_of};
+ghost use Rattle.lb_health_view.specs.RegistrySide.{HasCellIn, IsReady, settings_of};
 ghost use Rattle.lb_health_view.specs.Updates.{RegistryRefuses};
 ghost use Rattle.lb_health_view.specs.ViewEvents.{Held};
 ghost use Rattle.lb_health_view.specs.Views.{IsViewAfter};
@@ -316,11 +316,15 @@ impl<S: BackendSelection> GroupCore<S> {
         self.view.ready_in(registry, reader.generation(), backend)
     }
 
-    /// Returns the number of the cell that a backend has in the snapshot of the generation that a reader entered, if it has one there.
+    /// Returns the number of the cell that a backend has in the snapshot of the generation that a reader entered, and whether the backend
+    /// is enabled.
     ///
-    /// It is for who counts changes by cell. It takes no memory.
-    pub fn cell_for(&self, reader: &Reader<S>, backend: &Backend) -> Option<u64> {
-        self.view.cell_in(reader.generation(), backend)
+    /// `None` where no such snapshot lives, or it doesn't list the backend. It takes no memory.
+    pub fn cell_and_flag(&self, reader: &Reader<S>, backend: &Backend) -> Option<(u64, bool)>
+        ensures { After self.now (λ made e. IfSome result (λ r.
+            HasCellIn (views_of made e) reader.now.generation backend.now r.0 r.1)) }
+    {
+        self.view.cell_and_flag(reader.generation(), backend)
     }
 
     /// Returns the next ticket of the selector that a reader is in, as a group without a view does: each selector has a counter of its

@@ -1,7 +1,8 @@
+mod CellLemmas
 pub mod Exchanges
+mod FlagLemmas
 pub mod Histories
 mod Memberships
-mod ReadyLemmas
 pub mod Registrations
 pub mod SameReadiness
 mod Updates

@@ -1,20 +1,19 @@
-//! Counts of changes, and stamps, which say as of which changes something was found of a backend. A backend has one of the counts for its
-//! cell and one for its flag, so that a flip or a flag makes the findings of few others old. Contracts say nothing of them: they decide
-//! when a finding is asked for again, and not what it is.
+//! Counts of changes, and stamps, which say as of which changes something was found of a backend. Backends share counts by a number of
+//! their identity, so that a change makes the findings of few others old. Contracts say nothing of them: they decide when a finding is
+//! asked for again, and not what it is.
 
 use std::alloc::{AllocError, Global};
 use std::sync::atomic::AtomicU64;
 use std::sync::atomic::Ordering::SeqCst;
 
-// How many counts there are: as many as a stamp tells apart.
+// How many counts there are.
 const COUNTS: u64 = 256;
 
-// The bits of a stamp: eight say which count the cell has, eight which the flag, and those below are of the sum of both counts.
-const CELL: u64 = 53;
+/// A stamp of so many changes and more is never of now.
+pub const STAMPS: u64 = 0x2000_0000;
 
-const FLAG: u64 = 45;
-
-const SUMS: u64 = 1 << FLAG;
+// What a count is at least once it is closed.
+const CLOSED: u64 = 0x8000_0000_0000_0000;
 
 /// Counts of changes, by number modulo 256.
 #[derive(Drop)]
@@ -50,7 +49,14 @@ impl ChangeCounts {
         }
     }
 
-    /// Returns how many changes were counted of what has this number, and of what shares its count, wrapping.
+    /// Has no stamp be of now any more.
+    pub fn close(&self) {
+        for count in self.counts.as_slice() {
+            count.fetch_or(CLOSED, SeqCst);
+        }
+    }
+
+    /// Returns how many changes were counted of what has this number, and of what shares its count.
     #[inline]
     pub fn so_far(&self, number: u64) -> u64 {
         match self.counts.get((number % COUNTS) as usize) {
@@ -60,19 +66,18 @@ impl ChangeCounts {
     }
 }
 
-/// The changes as of which something was found of a backend: which counts are those of its cell and of its flag, and their sum then.
+/// The changes as of which something was found, of what has some number: how many they were.
 #[derive(Clone, Copy)]
 pub struct Stamp {
     bits: u64,
 }
 
 impl Stamp {
-    /// Returns the stamp of these counts of a cell and of a flag, with the numbers of both.
+    /// Returns the stamp of what has this number, as of now.
     #[inline]
-    pub fn new(cells: &ChangeCounts, cell: u64, flags: &ChangeCounts, flag: u64) -> Stamp {
-        let sum = cells.so_far(cell).wrapping_add(flags.so_far(flag));
+    pub fn new(changes: &ChangeCounts, number: u64) -> Stamp {
         Stamp {
-            bits: cell % COUNTS << CELL | flag % COUNTS << FLAG | sum % SUMS,
+            bits: changes.so_far(number),
         }
     }
 
@@ -88,10 +93,9 @@ impl Stamp {
         self.bits
     }
 
-    /// Returns whether none of the changes came since that make another answer of what was found.
+    /// Returns whether no change was counted since of what has this number.
     #[inline]
-    pub fn is_of_now(self, cells: &ChangeCounts, flags: &ChangeCounts) -> bool {
-        let now = Stamp::new(cells, self.bits >> CELL, flags, self.bits >> FLAG);
-        now.bits == self.bits
+    pub fn is_of_now(self, changes: &ChangeCounts, number: u64) -> bool {
+        changes.so_far(number) == self.bits
     }
 }

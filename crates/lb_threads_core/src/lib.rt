@@ -5,8 +5,11 @@
 #![tactic(auto)]
 
 pub mod backends;
+pub mod cell_tables;
+pub mod cell_words;
 pub mod changes;
 pub mod clock;
+pub mod flag_words;
 pub mod gate;
 pub mod generators;
 pub mod keyed;
@@ -18,7 +21,6 @@ pub mod making;
 pub mod marks;
 pub mod numbers;
 pub mod owner;
-pub mod ready_words;
 pub mod registry;
 pub mod rule;
 pub mod wakes;

@@ -36,21 +36,22 @@ fn number_of(address: &SocketAddr) -> u64 {
     }
 }
 
-// A number of a backend's identity, whose high bits few others have.
-fn spread_of(backend: &Backend) -> u64 {
+/// Returns a number of a backend's identity, whose high bits few others have: its place and its flag go by it.
+#[inline]
+pub fn spread_of(backend: &Backend) -> u64 {
     let (address, weight) = backend.identity();
     let number = number_of(address).wrapping_add((weight as u64) << 48);
     number.wrapping_mul(SPREAD)
 }
 
-/// Returns the number of a backend's flag, by its identity.
-pub fn flag_of(backend: &Backend) -> u64 {
-    spread_of(backend) >> 56
+/// Returns the number of the flag of a backend whose identity has this number.
+#[inline]
+pub fn flag_of(spread: u64) -> u64 {
+    spread >> 56
 }
 
-// The first place of a backend among so many.
-fn first_place(backend: &Backend, count: usize) -> usize {
-    let spread = spread_of(backend);
+// The first place of a backend whose identity has this number, among so many.
+fn first_place(spread: u64, count: usize) -> usize {
     ((spread >> 32).wrapping_mul(count as u64) >> 32) as usize
 }
 
@@ -87,7 +88,15 @@ fn is_same(backend: &Backend, mark: &Backend) -> bool
 pub fn place_of(marks: &[Option<Backend>], backend: &Backend) -> Option<usize>
     ensures { IfSome result (λ i. (m : Member) × (slice_get marks.now i ≡ Some (Some m)) × (same_member backend.now m ≡ true)) }
 {
-    let first = first_place(backend, marks.len());
+    place_by(marks, backend, spread_of(backend))
+}
+
+/// Returns what `place_of` returns of a backend whose identity has this number.
+#[inline]
+pub fn place_by(marks: &[Option<Backend>], backend: &Backend, spread: u64) -> Option<usize>
+    ensures { IfSome result (λ i. (m : Member) × (slice_get marks.now i ≡ Some (Some m)) × (same_member backend.now m ≡ true)) }
+{
+    let first = first_place(spread, marks.len());
     for step in 0..LOOKS {
         let place = first.wrapping_add(step);
         let Some(Some(mark)) = marks.get(place) else {
@@ -102,7 +111,7 @@ pub fn place_of(marks: &[Option<Backend>], backend: &Backend) -> Option<usize>
 
 // An empty place for a backend.
 fn free_place(marks: &[Option<Backend>], backend: &Backend) -> Option<usize> {
-    let first = first_place(backend, marks.len());
+    let first = first_place(spread_of(backend), marks.len());
     for step in 0..LOOKS {
         let place = first.wrapping_add(step);
         match marks.get(place) {

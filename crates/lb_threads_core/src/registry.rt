@@ -12,9 +12,11 @@ ghost use Rattle.lb_health_core.specs.RegistryEvents.{Configured};
 ghost use Rattle.lb_health_view.specs.Passes.{verdict_of};
 ghost use Rattle.lb_select_base.specs.declared.refusal.Refusal.{Refusal};
 ghost use Rattle.lb_threads_core.specs.Internal.Leaving.{EndsSnapshots, HaveLeft, IsNoteOf};
+ghost use Rattle.lb_threads_core.specs.CellWords.{WasHealthy};
 ghost use Rattle.lb_threads_core.specs.Registry.{IsRegistryOf, SeenIn, UnderRegistry};
 
-use crate::changes::ChangeCounts;
+use crate::cell_tables::CellTables;
+use crate::cell_words::CellWords;
 use crate::keyed::NoRule;
 use crate::lock::{KeyedLock, TakenValue};
 use crate::owner::{ViewNote, ViewOwner, take_gone};
@@ -27,7 +29,7 @@ use lb_health_view::passes::{ask_check, report_flip};
 use lb_select_base::backend::Backend;
 use lb_select_base::refusal::Refusal;
 use log::Log;
-use std::alloc::Global;
+use std::alloc::{AllocError, Global};
 use std::collections::BTreeSet;
 use std::marker::Model;
 use std::snapshot::Snapshot;
@@ -47,6 +49,9 @@ impl<R: KeyRule> LockRule<Registry<R>, Snapshot<Registry<R>>> for OfRegistry {
     ghost holds = { λ key registry. IsRegistryOf R.gives key.value registry × (registry.id ≡ key.value.id) };
 }
 
+/// The lock of a registry.
+pub type RegistryLock<R> = KeyedLock<Registry<R>, Snapshot<Registry<R>>, OfRegistry>;
+
 /// A registry that was taken from its lock.
 pub type HeldRegistry<R> = TakenValue<Registry<R>, Snapshot<Registry<R>>>;
 
@@ -55,11 +60,12 @@ pub type HeldRegistry<R> = TakenValue<Registry<R>, Snapshot<Registry<R>>>;
 ///
 /// `new` and `by_address` make one by its rule of keys; `over` makes one of a plain registry.
 pub struct HealthRegistry<R: KeyRule + Drop = Rule<NoRule>, C = BoxedCheck> {
-    lock: KeyedLock<Registry<R>, Snapshot<Registry<R>>, OfRegistry>,
+    lock: RegistryLock<R>,
     check: OnceLock<C>,
-    // Counts the verdicts that flipped a cell, and those that flipped each.
+    // Counts the verdicts that flipped a cell.
     changes: AtomicU64,
-    flips: ChangeCounts,
+    // Words that say which cells are healthy.
+    tables: CellTables<R>,
     // The notes of the views that have owners.
     notes: Mutex<Vec<Arc<ViewNote>>>,
     // Whether an owner was dropped since the notes were looked through.
@@ -72,7 +78,7 @@ impl<R: KeyRule + Drop, C: Drop> Drop for HealthRegistry<R, C> {
             lock: _,
             check: _,
             changes: _,
-            flips: _,
+            tables: _,
             notes: _,
             some_gone: _,
         } = self;
@@ -85,6 +91,10 @@ impl<R: KeyRule + Drop, C> Model for HealthRegistry<R, C> {
     ghost Value = { RegistryHandle R };
 
     ghost view = { λ h. record { start = h.lock.table.shared.key.value; lock = h.lock.table.shared.table_id } };
+
+    ghost use Rattle.std.specs.Prelude.{◌≡◌};
+
+    ghost invariant = { λ h. h.tables ≡ h.lock.table.shared.key.value };
 }
 
 impl<R: KeyRule + Drop, C: HealthCheck + Drop> HealthRegistry<R, C> {
@@ -98,12 +108,12 @@ impl<R: KeyRule + Drop, C: HealthCheck + Drop> HealthRegistry<R, C> {
         let key = Snapshot::of(&registry);
         let lock = KeyedLock::new(alloc, registry, &key)?;
         let some_gone = Arc::new(alloc, AtomicBool::new(false))?;
-        let flips = ChangeCounts::new(alloc)?;
+        let tables = CellTables::new(alloc, &key)?;
         Ok(HealthRegistry {
             lock,
             check: OnceLock::new(),
             changes: AtomicU64::new(0),
-            flips,
+            tables,
             notes: Mutex::new(Vec::new(alloc)),
             some_gone,
         })
@@ -268,12 +278,11 @@ impl<R: KeyRule + Drop, C: HealthCheck + Drop> HealthRegistry<R, C> {
         let answer = self.hand_over(rt, cell, verdict, threshold);
         if let Ok(true) = answer {
             self.changes.fetch_add(1, SeqCst);
-            self.flips.note(cell);
         }
         answer
     }
 
-    // Gives a verdict to a cell, which is all that the lock is taken for.
+    // Gives a verdict to a cell, and notes what it flipped, which is all that the lock is taken for.
     fn hand_over<W: Wait>(
         &self,
         rt: &W,
@@ -287,8 +296,25 @@ impl<R: KeyRule + Drop, C: HealthCheck + Drop> HealthRegistry<R, C> {
     {
         let mut held = self.take(rt);
         let answer = held.value.observe(cell, verdict, threshold);
+        self.note_flip(rt, &held.value, cell, &answer);
         self.put(held);
         answer
+    }
+
+    // Writes the words of a cell, where a verdict flipped it. The caller has the registry.
+    fn note_flip<W: Wait>(
+        &self,
+        rt: &W,
+        registry: &Registry<R>,
+        cell: u64,
+        answer: &Result<bool, Refusal>,
+    )
+        requires { IsRegistryOf R.gives self.now.start registry.now }
+    {
+        let Ok(true) = answer else {
+            return;
+        };
+        self.tables.note(rt, cell, registry.cell_ready(cell));
     }
 
     /// Returns how many verdicts flipped a cell. Where the number is another one, what is ready may be another set.
@@ -372,7 +398,8 @@ impl<R: KeyRule + Drop, C: HealthCheck + Drop> HealthRegistry<R, C> {
 /// Takes the registry itself out of its lock, for one call of a view or a group; `put_registry` ends it.
 ///
 /// The thread sleeps while another one has it. Views whose owners are gone are marked for removal first. A verdict goes through
-/// `observe`, which counts it where it flips a cell. It is for the crates of this library: the crate that users take doesn't pass it on.
+/// `observe`, which writes the words of a cell that it flips, and counts it. It is for the crates of this library: the crate that users
+/// take doesn't pass it on.
 pub fn take_registry<W: Wait, R: KeyRule + Drop, C: HealthCheck + Drop>(
     registry: &HealthRegistry<R, C>,
     rt: &W,
@@ -396,12 +423,23 @@ pub fn put_registry<R: KeyRule + Drop, C: HealthCheck + Drop>(
     registry.put(held);
 }
 
-/// Returns the counts of the verdicts that flipped a cell, by the cell's number.
+/// Returns words that say which cells of a registry are healthy, with room for those of so many backends.
 ///
-/// It is for the crates of this library: the crate that users take doesn't pass it on.
-#[inline]
-pub fn flips_of<R: KeyRule + Drop, C>(registry: &HealthRegistry<R, C>) -> &ChangeCounts {
-    &registry.flips
+/// A flip writes them from now on. They say nothing yet of a cell for which none asked. It takes no lock that a request takes. It is for
+/// the crates of this library: the crate that users take doesn't pass it on.
+///
+/// # Errors
+///
+/// `AllocError` where memory is refused.
+pub fn cell_words_of<W: Wait, R: KeyRule + Drop, C: HealthCheck + Drop>(
+    registry: &HealthRegistry<R, C>,
+    rt: &W,
+    alloc: Global,
+    backends: usize,
+) -> Result<Arc<CellWords<R>>, AllocError>
+    ensures { IfOk result (λ c. arc_value c ≡ registry.now.start) }
+{
+    registry.tables.words(rt, alloc, &registry.lock, backends)
 }
 
 // Marks the views whose owners are gone for removal, and releases their cells.

@@ -21,7 +21,8 @@ use Rattle.lb_rebuild_core.specs.contracts.retired.Reader as reader
 use Rattle.lb_threads_group.proofs.group.SlotCounters.TheSendSync as line
 use Rattle.lb_threads_group.proofs.group.Marks.TheSendSync as marks
 use Rattle.lb_threads_group.proofs.found.Tickets.TheSendSync as tickets
-use Rattle.lb_threads_core.proofs.ready_words.ReadyWords.TheSendSync as ready
+use Rattle.lb_threads_core.proofs.cell_words.CellWords.TheSendSync as cells
+use Rattle.lb_threads_core.proofs.flag_words.FlagWords.TheSendSync as flags
 use Rattle.lb_threads_core.proofs.numbers.KeyedNumbers.TheSendSync as numbered
 use Rattle.lb_threads_group.specs.contracts.found.Found as found
 use Rattle.lb_threads_group.specs.contracts.found.Found.TheInside as found_inside
@@ -59,10 +60,13 @@ module _ (T R H C W : RattleType) (g : Selection T.Denot C.Denot W.Denot) (k : K
       (struct_send (shape (found_inside.the_type T R H C W g k)) (
         search (sendable, crosses) depth 20,
         (
-          search (sendable, crosses, ready.the_send) depth 20,
+          search (sendable, crosses, flags.the_send) depth 20,
           (
-            search (sendable, crosses, load_words.the_send, load_words.the_sync) depth 20,
-            (search (sendable, crosses, tickets.the_send) depth 20, tt),
+            search (sendable, crosses, cells.the_send, cells.the_sync) depth 20,
+            (
+              search (sendable, crosses, load_words.the_send, load_words.the_sync) depth 20,
+              (search (sendable, crosses, tickets.the_send) depth 20, tt),
+            ),
           ),
         ),
       ))
@@ -72,10 +76,13 @@ module _ (T R H C W : RattleType) (g : Selection T.Denot C.Denot W.Denot) (k : K
       (struct_sync (shape (found_inside.the_type T R H C W g k)) (
         search (sendable, crosses) depth 20,
         (
-          search (sendable, crosses, ready.the_sync) depth 20,
+          search (sendable, crosses, flags.the_sync) depth 20,
           (
-            search (sendable, crosses, load_words.the_send, load_words.the_sync) depth 20,
-            (search (sendable, crosses, tickets.the_sync) depth 20, tt),
+            search (sendable, crosses, cells.the_send, cells.the_sync) depth 20,
+            (
+              search (sendable, crosses, load_words.the_send, load_words.the_sync) depth 20,
+              (search (sendable, crosses, tickets.the_sync) depth 20, tt),
+            ),
           ),
         ),
       ))

@@ -1,17 +1,27 @@
--- What is known of which backends are ready for the readers of a generation, each at some state of group and registry. Readiness is the
--- same for all readers of a generation.
+-- What is known of which backends are ready for the readers of a generation, each at some state of group and registry: by the cell and the
+-- flag that the group had for it, and by the cell's health in the registry. Readiness is the same for all readers of a generation.
 use Rattle.std.specs.Prelude.{◌≡◌, ◌↔◌, ℕ, Bool, true, IsTrue}
 use Rattle.lb_select_base.specs.Backends.{Member}
 use Rattle.lb_health_core.specs.Registry.{HoldsOf}
-use Rattle.lb_health_view.specs.RegistrySide.{IsReady}
+use Rattle.lb_health_view.specs.RegistrySide.{HasCellIn, IsReady}
+use Rattle.lb_rebuild_core.specs.GroupHistory.{slot_events}
 use Rattle.lb_rebuild_core.specs.GroupStates.{After, views_of}
-use Rattle.lb_threads_group.specs.Group.{NewestReadyUnder, SeenBeside}
+use Rattle.lb_rebuild_core.specs.SlotsHistory.{newest}
+use Rattle.lb_threads_group.specs.Group.{NewestReadyUnder, Seen, SeenBeside}
 use Rattle.lb_threads_group.specs.Shared.{SharedValue}
 
 -- of which group and registry, and of which generation the words are
 pub record FoundValue (C R : Type 0) : Type 0 where
   pub site : SharedValue C R
   pub generation : ℕ
+
+module _ {C R : Type 0} where
+  -- the cell that the snapshot of a generation has for a backend, whether the backend is enabled, and, where it was found so, that the
+  -- generation is the newest
+  abbrev pub FlaggedAt : SharedValue C R → ℕ → Member → ℕ → Bool → Bool → Type 0
+  FlaggedAt site g b c enabled is_newest =
+      Seen site.core (λ v. After v (λ made e. HasCellIn (views_of made e) g b c enabled
+      × (is_newest ≡ true → newest (slot_events e) ≡ g)))
 
 module _ {C R : Type 0} (gives : R → Member → Member → Type 0) where
   -- whether a backend is ready in the snapshot of a generation

@@ -45,8 +45,8 @@ impl<S: BackendSelection, R: KeyRule + Drop, C: HealthCheck + Drop> SharedGroup<
 
     /// Returns whether a backend is ready in the newest membership, without taking memory.
     ///
-    /// Of a member it mostly takes no lock. It does where something changed since it was asked for, while slot 0 serves an older
-    /// membership, and once the group is cancelled.
+    /// Of a member it mostly takes no lock. It does where none asked for the backend since the publication or since its flag was set, while
+    /// slot 0 serves an older membership, and once the group is cancelled.
     pub fn ready<W: Wait>(&self, rt: &W, backend: &Backend) -> bool
         ensures { NewestReadyUnder R.gives self.now backend.now result }
     {
@@ -82,9 +82,9 @@ impl<S: BackendSelection, R: KeyRule + Drop, C: HealthCheck + Drop> SharedGroup<
         if generation != entry.reader.generation() || self.noted_newest() != Some(generation) {
             return None;
         }
-        let said = self.finding(rt, found, &entry.reader, backend);
-        if said.is_newest {
-            Some(said.ready)
+        let finding = self.finding(rt, found, &entry.reader, backend);
+        if finding.is_newest {
+            Some(finding.ready)
         } else {
             None
         }
@@ -136,5 +136,6 @@ impl<S: BackendSelection, R: KeyRule + Drop, C: HealthCheck + Drop> SharedGroup<
         held.value.set_enable(backend, enabled);
         self.lock.put(held);
         self.note_flag(backend);
+        self.judge_one(rt, backend);
     }
 }

@@ -1,25 +1,27 @@
-//! Which backends of a generation are ready, as words that the lanes of a slot share. A selection loads the word of its candidate, and asks
-//! group and registry where something changed since.
-ghost use Rattle.std.specs.Prelude.{◌≡◌, IfOk, IfSome, None};
+//! Which backends of a generation are ready, as words that the lanes of a slot share: one has a backend's cell and flag, and the registry
+//! has one for the cell. A selection loads both, and asks group and registry where a word is lacking, or the flag changed since.
+ghost use Rattle.std.specs.Prelude.{◌≡◌, ◌&&◌, IfOk, IfSome, None};
 ghost use Rattle.std.specs.Arc.{arc_value};
-ghost use Rattle.lb_threads_group.specs.Found.{FoundAt, ReadyAt};
+ghost use Rattle.lb_threads_core.specs.CellWords.{WasHealthy};
+ghost use Rattle.lb_threads_group.specs.Found.{FlaggedAt, FoundAt, ReadyAt};
 ghost use Rattle.lb_threads_group.specs.Group.{ReadyUnder};
-ghost use Rattle.lb_threads_group.specs.Kept.{IsFoundOf};
+ghost use Rattle.lb_threads_group.specs.Kept.{IsEntry, IsFoundOf};
 ghost use Rattle.lb_threads_group.specs.Shared.{SharedValue};
 
 use crate::group::SharedGroup;
-use crate::kept::Site;
+use crate::kept::{Entry, Site};
 use lb_health_core::health_check::HealthCheck;
 use lb_health_core::keys::KeyRule;
 use lb_rebuild_core::retired::Reader;
 use lb_select_base::backend::Backend;
 use lb_select_base::walk::BackendSelection;
+use lb_threads_core::cell_words::CellWords;
 use lb_threads_core::changes::Stamp;
+use lb_threads_core::flag_words::{FlagRule, FlagWords, Flagged};
 use lb_threads_core::loads::LoadWords;
 use lb_threads_core::lock::KeyedLock;
-use lb_threads_core::marks::flag_of;
-use lb_threads_core::ready_words::{ReadyRule, ReadyWords, Said};
-use lb_threads_core::registry::{HealthRegistry, flips_of, put_registry, take_registry};
+use lb_threads_core::marks::{flag_of, spread_of};
+use lb_threads_core::registry::{HealthRegistry, cell_words_of, put_registry, take_registry};
 use lb_threads_core::rule::LockRule;
 use std::alloc::{AllocError, Global};
 use std::collections::BTreeSet;
@@ -37,18 +39,25 @@ pub struct Subject<S: BackendSelection, R: KeyRule + Drop, C> {
     generation: u64,
 }
 
-/// Each word says of the backend that has its place whether it is ready for the readers of the generation, at some state of group and
-/// registry; and whether the generation was the newest one then.
+/// Each word says of the backend that has its place which cell the generation has for it, and whether it is enabled, at some state of the
+/// group; and whether the generation was the newest one then.
 pub struct OfFound {}
 
-impl<S: BackendSelection, R: KeyRule + Drop, C> ReadyRule<Subject<S, R, C>> for OfFound {
-    ghost use Rattle.lb_threads_group.specs.Found.{FoundAt};
-    ghost use Rattle.lb_threads_group.specs.SameReadiness.{found-at};
+impl<S: BackendSelection, R: KeyRule + Drop, C> FlagRule<Subject<S, R, C>> for OfFound {
+    ghost use Rattle.lb_threads_group.specs.Found.{FlaggedAt};
+    ghost use Rattle.lb_threads_group.specs.SameReadiness.{flagged-at};
 
-    ghost told = { λ of b ready is_newest. FoundAt R.gives of.site.value of.generation b ready is_newest };
+    ghost told = { λ of b cell enabled is_newest. FlaggedAt of.site.value of.generation b cell enabled is_newest };
 
-    ghost by_identity = { λ of b m ready is_newest same told. found-at R.gives of.site.value of.generation b m ready is_newest same
-        told };
+    ghost by_identity = { λ of b m cell enabled is_newest same told. flagged-at of.site.value of.generation b m cell enabled is_newest
+        same told };
+}
+
+/// Whether a backend is ready for the readers of a generation, and whether that is known of the newest membership too.
+#[derive(Clone, Copy)]
+pub(crate) struct Finding {
+    pub(crate) ready: bool,
+    pub(crate) is_newest: bool,
 }
 
 // How many tickets were drawn from a selector, wrapping, with so much room that no other word shares its line of memory, nor the one beside
@@ -65,20 +74,22 @@ struct Tickets {
 #[derive(Drop)]
 pub struct Found<S: BackendSelection, R: KeyRule + Drop, C> {
     generation: u64,
-    ready: ReadyWords<Subject<S, R, C>, OfFound>,
+    flags: FlagWords<Subject<S, R, C>, OfFound>,
+    cells: Arc<CellWords<R>>,
     loads: Option<Arc<LoadWords>>,
     tickets: Tickets,
 }
 
 impl<S: BackendSelection, R: KeyRule + Drop, C> Model for Found<S, R, C> {
     ghost use Rattle.std.specs.Prelude.{◌≡◌};
+    ghost use Rattle.std.specs.Arc.{arc_value};
     ghost use Rattle.lb_threads_group.specs.Found.{FoundValue};
 
     ghost Value = { FoundValue S.Config R };
 
-    ghost view = { λ f. record { site = f.ready.site.value; generation = f.ready.generation } };
+    ghost view = { λ f. record { site = f.flags.site.value; generation = f.flags.generation } };
 
-    ghost invariant = { λ f. f.ready.generation ≡ f.generation };
+    ghost invariant = { λ f. (f.flags.generation ≡ f.generation) × (arc_value f.cells ≡ f.flags.site.value.registry) };
 }
 
 /// The words of a slot: of the generation that it serves, and of the one that is built for it.
@@ -149,8 +160,10 @@ impl<S: BackendSelection, R: KeyRule + Drop, C> Found<S, R, C> {
         site: &Site<S, R, C>,
         generation: u64,
         backends: &BTreeSet<Backend>,
+        cells: Arc<CellWords<R>>,
         loads: Option<Arc<LoadWords>>,
     ) -> Result<Found<S, R, C>, AllocError>
+        requires { arc_value cells ≡ site.now.registry }
         ensures { IfOk result (λ f. f.site ≡ site.now) }
     {
         let of = Subject {
@@ -159,7 +172,8 @@ impl<S: BackendSelection, R: KeyRule + Drop, C> Found<S, R, C> {
         };
         Ok(Found {
             generation,
-            ready: ReadyWords::new(alloc, backends, &of)?,
+            flags: FlagWords::new(alloc, backends, &of)?,
+            cells,
             loads,
             tickets: Tickets {
                 before: [0; 15],
@@ -190,6 +204,37 @@ impl<S: BackendSelection, R: KeyRule + Drop, C> Found<S, R, C> {
     {
         self.generation
     }
+
+    // What the words say of a backend whose identity has this number, and as of which changes of its flag.
+    #[inline]
+    fn said(&self, backend: &Backend, spread: u64) -> Option<(Finding, Stamp)>
+        ensures { IfSome result (λ r.
+            FoundAt R.gives self.now.site self.now.generation backend.now r.0.ready r.0.is_newest) }
+    {
+        let flagged = self.flags.said(backend, spread)?;
+        let healthy = self.cells.said(flagged.cell)?;
+        Some((finding_of(flagged, healthy), flagged.stamp))
+    }
+
+    // Has the words say which cell a backend has, whether it is enabled, and whether the cell is kept and healthy.
+    fn note(&self, backend: &Backend, flagged: Flagged, healthy: bool)
+        requires flagged { FlaggedAt self.now.site self.now.generation backend.now flagged.cell flagged.is_enabled flagged.is_newest }
+        requires healthy { WasHealthy R.gives self.now.site.registry flagged.cell healthy }
+    {
+        self.flags.note(backend, flagged);
+        self.cells.note(flagged.cell, healthy);
+    }
+}
+
+// Whether a backend with this cell and this flag is ready, where the cell is this healthy.
+#[inline]
+fn finding_of(flagged: Flagged, healthy: bool) -> Finding
+    ensures { (result.ready ≡ (flagged.is_enabled && healthy)) × (result.is_newest ≡ flagged.is_newest) }
+{
+    Finding {
+        ready: flagged.is_enabled && healthy,
+        is_newest: flagged.is_newest,
+    }
 }
 
 impl<S: BackendSelection, R: KeyRule + Drop, C> SharedGroup<S, R, C> {
@@ -202,16 +247,16 @@ impl<S: BackendSelection, R: KeyRule + Drop, C> SharedGroup<S, R, C> {
 }
 
 impl<S: BackendSelection, R: KeyRule + Drop, C: HealthCheck + Drop> SharedGroup<S, R, C> {
-    // Whether what was found of a backend is so now. Of a group that is cancelled or dropped that isn't known, since others' calls may then
-    // remove its cells.
-    fn is_of_now(&self, stamp: Stamp) -> bool {
-        !self.marks.is_closed.load(SeqCst)
-            && stamp.is_of_now(flips_of(&*self.registry), &self.marks.flags)
+    // Whether the flag that was found of a backend is the one of now, and its cell is kept. Of a group that is cancelled or dropped that
+    // isn't known, since others' calls may then remove its cells.
+    #[inline]
+    fn is_of_now(&self, spread: u64, stamp: Stamp) -> bool {
+        stamp.is_of_now(&self.marks.flags, flag_of(spread))
     }
 
     // Notes that this backend's flag may have changed.
     pub(crate) fn note_flag(&self, backend: &Backend) {
-        self.marks.flags.note(flag_of(backend));
+        self.marks.flags.note(flag_of(spread_of(backend)));
     }
 
     // Notes that each flag may have changed.
@@ -253,7 +298,7 @@ impl<S: BackendSelection, R: KeyRule + Drop, C: HealthCheck + Drop> SharedGroup<
             return;
         };
         let loads = self.loads.words(rt, self.alloc, generation, &backends);
-        let Some(found) = self.new_found(generation, &backends, loads) else {
+        let Some(found) = self.new_found(rt, generation, &backends, loads) else {
             return;
         };
         let _board = &self.board;
@@ -277,6 +322,28 @@ impl<S: BackendSelection, R: KeyRule + Drop, C: HealthCheck + Drop> SharedGroup<
         self.leave_entry(rt, entry);
     }
 
+    // Judges a backend for each slot. It is for the thread that sets a flag, so that requests seldom have to ask.
+    pub(crate) fn judge_one<W: Wait>(&self, rt: &W, backend: &Backend) {
+        for slot in 0..self.slot_count() {
+            if let Ok(entry) = self.enter_lane(rt, slot) {
+                self.judge_for(rt, &entry, backend);
+                self.leave_entry(rt, entry);
+            }
+        }
+    }
+
+    // Judges a backend by the words of an entry.
+    fn judge_for<W: Wait>(&self, rt: &W, entry: &Entry<S, R, C>, backend: &Backend)
+        requires { IsEntry self.now entry.now.slot entry.now.reader entry.now.found }
+    {
+        let Some(found) = entry.words() else {
+            return;
+        };
+        if found.generation() == entry.reader.generation() {
+            self.judge(rt, found, &entry.reader, backend);
+        }
+    }
+
     // Judges each backend that has a word.
     fn judge_each<W: Wait>(&self, rt: &W, found: &Found<S, R, C>, reader: &Reader<S>)
         requires found { found.now.site ≡ self.now }
@@ -285,7 +352,7 @@ impl<S: BackendSelection, R: KeyRule + Drop, C: HealthCheck + Drop> SharedGroup<
         if found.generation() != reader.generation() {
             return;
         }
-        for mark in found.ready.marks() {
+        for mark in found.flags.marks() {
             if let Some(backend) = mark {
                 self.judge(rt, found, reader, backend);
             }
@@ -293,17 +360,21 @@ impl<S: BackendSelection, R: KeyRule + Drop, C: HealthCheck + Drop> SharedGroup<
     }
 
     // Words for readers of a generation.
-    fn new_found(
+    fn new_found<W: Wait>(
         &self,
+        rt: &W,
         generation: u64,
         backends: &BTreeSet<Backend>,
         loads: Option<Arc<LoadWords>>,
     ) -> Option<Arc<Found<S, R, C>>>
         ensures { IsFoundOf self.now result }
     {
-        let _site = &self.site;
-        let found = Found::new(self.alloc, &self.site, generation, backends, loads).ok()?;
-        Arc::new(self.alloc, found).ok()
+        let alloc = self.alloc;
+        let site = &self.site;
+        let registries: &HealthRegistry<R, C> = &*self.registry;
+        let cells = cell_words_of(registries, rt, alloc, backends.len()).ok()?;
+        let found = Found::new(alloc, site, generation, backends, cells, loads).ok()?;
+        Arc::new(alloc, found).ok()
     }
 
     // The newest backends, where they are those of this generation.
@@ -344,18 +415,15 @@ impl<S: BackendSelection, R: KeyRule + Drop, C: HealthCheck + Drop> SharedGroup<
         found: &Found<S, R, C>,
         reader: &Reader<S>,
         backend: &Backend,
-    ) -> Said
+    ) -> Finding
         requires found { (found.now.site ≡ self.now) × (found.now.generation ≡ reader.now.generation) }
         requires own { reader.now.group ≡ self.now.core.group.id }
         ensures { FoundAt R.gives self.now reader.now.generation backend.now result.ready result.is_newest }
     {
-        match found.ready.said(backend) {
-            Some(said) if self.is_of_now(said.stamp) => said,
-            _ => {
-                let said = self.ask(rt, reader, backend);
-                found.ready.note(backend, said);
-                said
-            }
+        let spread = spread_of(backend);
+        match found.said(backend, spread) {
+            Some((finding, stamp)) if self.is_of_now(spread, stamp) => finding,
+            _ => self.ask(rt, found, reader, backend),
         }
     }
 
@@ -364,35 +432,54 @@ impl<S: BackendSelection, R: KeyRule + Drop, C: HealthCheck + Drop> SharedGroup<
         requires { reader.now.group ≡ self.now.core.group.id }
         ensures { ReadyUnder R.gives self.now reader.now backend.now result }
     {
-        self.ask(rt, reader, backend).ready
-    }
-
-    // Whether group and registry say that a backend is ready for a reader, and whether that is in the newest generation; and as of which
-    // changes. One that another thread made but hasn't counted yet makes the finding old, no more.
-    #[cold]
-    #[inline(never)]
-    fn ask<W: Wait>(&self, rt: &W, reader: &Reader<S>, backend: &Backend) -> Said
-        requires { reader.now.group ≡ self.now.core.group.id }
-        ensures { FoundAt R.gives self.now reader.now.generation backend.now result.ready result.is_newest }
-    {
         let registries: &HealthRegistry<R, C> = &*self.registry;
         let _gate = &self.gate;
         let held = self.lock.take(rt);
         held.value.founded();
         let cells = take_registry(registries, rt);
         let group = held.value.core();
-        let cell = group.cell_for(reader, backend).unwrap_or(0);
-        let flips = flips_of(registries);
-        let stamp = Stamp::new(flips, cell, &self.marks.flags, flag_of(backend));
         let ready = group.ready(reader, &cells.value, backend);
-        let is_newest = group.newest() == reader.generation();
         put_registry(registries, cells);
         self.lock.put(held);
-        Said {
-            ready,
-            is_newest,
-            stamp,
+        ready
+    }
+
+    // Whether group and registry say that a backend is ready for a reader, and whether that is in the newest generation. The words say it
+    // from now on. A flag that another thread changed but hasn't counted yet makes its word old, no more.
+    #[cold]
+    #[inline(never)]
+    fn ask<W: Wait>(
+        &self,
+        rt: &W,
+        found: &Found<S, R, C>,
+        reader: &Reader<S>,
+        backend: &Backend,
+    ) -> Finding
+        requires found { (found.now.site ≡ self.now) × (found.now.generation ≡ reader.now.generation) }
+        requires own { reader.now.group ≡ self.now.core.group.id }
+        ensures { FoundAt R.gives self.now reader.now.generation backend.now result.ready result.is_newest }
+    {
+        let registries: &HealthRegistry<R, C> = &*self.registry;
+        let _gate = &self.gate;
+        let stamp = Stamp::new(&self.marks.flags, flag_of(spread_of(backend)));
+        let held = self.lock.take(rt);
+        held.value.founded();
+        let cells = take_registry(registries, rt);
+        let group = held.value.core();
+        let ready = group.ready(reader, &cells.value, backend);
+        let is_newest = group.newest() == reader.generation();
+        if let Some((cell, is_enabled)) = group.cell_and_flag(reader, backend) {
+            let flagged = Flagged {
+                cell,
+                is_enabled,
+                is_newest,
+                stamp,
+            };
+            found.note(backend, flagged, cells.value.cell_ready(cell));
         }
+        put_registry(registries, cells);
+        self.lock.put(held);
+        Finding { ready, is_newest }
     }
 }
 

@@ -218,7 +218,7 @@ impl<S: BackendSelection, R: KeyRule + Drop, C: HealthCheck + Drop> SharedGroup<
         held.value.cancel(&mut registry.value);
         put_registry(registries, registry);
         self.lock.put(held);
-        self.marks.is_closed.store(true, SeqCst);
+        self.close();
         for slot in 0..self.slot_count() {
             self.clear_lanes(rt, slot);
         }
@@ -228,8 +228,14 @@ impl<S: BackendSelection, R: KeyRule + Drop, C: HealthCheck + Drop> SharedGroup<
     /// Has workers cancel the group at their next turn. It takes no lock and no memory.
     pub fn let_go(&self) {
         self.marks.let_go.store(true, SeqCst);
-        self.marks.is_closed.store(true, SeqCst);
+        self.close();
         self.gate.wakes().wake();
+    }
+
+    // Has no selection go by lanes and words any more.
+    fn close(&self) {
+        self.marks.is_closed.store(true, SeqCst);
+        self.marks.flags.close();
     }
 
     /// Returns whether `let_go` was called.

@@ -9,7 +9,7 @@ use crate::found::Found;
 use crate::group::SharedGroup;
 use crate::port::LockedPort;
 use counted_slot::Fits;
-use lb_balancer_core::port::GroupPort;
+use lb_balancer_core::port::SelectPort;
 use lb_health_core::health_check::HealthCheck;
 use lb_health_core::keys::KeyRule;
 use lb_rebuild::watched::Watched;
@@ -220,6 +220,21 @@ impl<S: BackendSelection, R: KeyRule + Drop, C: HealthCheck + Drop> SharedGroup<
     {
         if let Some(entry) = lanes.clear(hint, &self.site) {
             self.leave_entry(rt, entry);
+        }
+    }
+
+    // Gives each lane of a slot a reader of what the slot serves now. It is for the thread that publishes, so that requests seldom have to
+    // enter. A lane that is read is emptied by its last reader.
+    pub(crate) fn fill_lanes<W: Wait>(&self, rt: &W, slot: usize) {
+        let Some(lanes) = self.lanes_of(slot) else {
+            return;
+        };
+        for lane in 0..lanes.count() {
+            let hint = lane as u64;
+            self.clear_lane(rt, lanes, hint);
+            if let Ok(entry) = self.enter_lane(rt, slot) {
+                self.keep(rt, hint, entry);
+            }
         }
     }
 

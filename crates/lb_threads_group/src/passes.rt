@@ -13,7 +13,7 @@ ghost use Rattle.lb_threads_group.specs.Shared.{IsSame, SelectsByAny};
 use crate::found::Found;
 use crate::group::SharedGroup;
 use crate::port::LockedPort;
-use lb_balancer_core::port::TakesBack;
+use lb_balancer_core::port::TakesReaders;
 use lb_health_core::health_check::HealthCheck;
 use lb_health_core::keys::KeyRule;
 use lb_health_view::discovery::ServiceDiscovery;

@@ -9,7 +9,9 @@ ghost use Rattle.lb_threads_group.specs.Group.{FailedUnder, ReportedUnder, Ready
 use crate::found::Found;
 use crate::group::SharedGroup;
 use lb_balancer_core::build::RefusedJob;
-use lb_balancer_core::port::{GroupPort, TakesBack};
+use lb_balancer_core::port::{
+    GroupPort, SchedulePort, SelectPort, TakesBuilds, TakesReaders, WorkPort,
+};
 use lb_health_core::health_check::{BoxedCheck, HealthCheck};
 use lb_health_core::keys::{KeyRule, Rule};
 use lb_health_view::view::Settings;
@@ -62,107 +64,16 @@ impl<'g, 'r, S: BackendSelection, R: KeyRule + Drop, C, W> LockedPort<'g, 'r, 'g
     }
 }
 
-impl<'g, 'r, 'f, S: BackendSelection, R: KeyRule + Drop, C: HealthCheck + Drop, W: Wait> TakesBack<
-    RefusedJob<S>,
-    Built<S>,
-    Reader<S>,
-> for LockedPort<'g, 'r, 'f, S, W, R, C> {
-    ghost owns_refused = { λ p r. OwnsJob p.group.now.core r.task };
-
-    ghost owns_built = { λ p b. OwnsJob p.group.now.core b.task };
-
-    ghost owns_reader = { λ p r. r.group ≡ p.group.now.core.group.id };
-
-    ghost failed = { λ p r now q. FailedUnder R.gives p.group.now r.task now × (q.group.now ≡ p.group.now) };
-
-    ghost published = { λ p b t q. PublishedUnder p.group.now.core b t × (q.group.now ≡ p.group.now) };
-
-    ghost left = { λ p r q. LeftUnder p.group.now.core r × (q.group.now ≡ p.group.now) };
-
-    fn fail(&mut self, refused: RefusedJob<S>, now: u128) {
-        let group = self.group;
-        let registries: &HealthRegistry<R, C> = &*group.registry;
-        let job = refused.into_job();
-        let slot = job.slot();
-        let gates: &SelectorRebuildGate = &*group.gate;
-        let mut held = group.lock.take(self.rt);
-        // `_gate` and `founded()` are for the prover alone: they show it the group's invariant, and do nothing at run time.
-        held.value.founded();
-        let mut cells = take_registry(registries, self.rt);
-        let mut gate = take_gate(gates, self.rt);
-        let told = held.value.fail(job, &mut cells.value, &mut gate.value, now);
-        group.note_slot(&held.value, slot);
-        put_gate(gates, gate);
-        put_registry(registries, cells);
-        group.lock.put(held);
-        gates.wakes().wake();
-        match told {
-            Ok(()) => {}
-            Err(job) => end_job(job),
-        }
-    }
-
-    fn publish(&mut self, built: Built<S>) -> Publication {
-        let group = self.group;
-        let _gate = &group.gate;
-        let slot = built.slot();
-        let generation = built.generation();
-        let mut held = group.lock.take(self.rt);
-        held.value.founded();
-        let told = held.value.publish(built);
-        group.note_slot(&held.value, slot);
-        group.lock.put(held);
-        group.clear_lanes(self.rt, slot);
-        group.judge_all(self.rt, slot);
-        match told {
-            Ok(told) => told,
-            Err(built) => {
-                end_built(built);
-                Publication::Abandoned(generation)
-            }
-        }
-    }
-
-    fn leave(&mut self, reader: Reader<S>) {
-        let group = self.group;
-        let _gate = &group.gate;
-        let slot = reader.slot();
-        let generation = reader.generation();
-        let mut held = group.lock.take(self.rt);
-        held.value.founded();
-        let served = held.value.core().served(slot);
-        let told = held.value.leave(reader);
-        let is_last = group.has_last_left(slot, served != Some(generation), told.is_ok());
-        group.lock.put(held);
-        group.wake_if(is_last);
-        match told {
-            Ok(()) => {}
-            Err(reader) => end_reader(reader),
-        }
-    }
-}
-
-impl<'g, 'r, 'f, S: BackendSelection, R: KeyRule + Drop, C: HealthCheck + Drop, W: Wait> GroupPort<
-    S,
-> for LockedPort<'g, 'r, 'f, S, W, R, C> {
-    ghost owns_job = { λ p t. OwnsJob p.group.now.core t };
-
+impl<
+    'g,
+    'r,
+    'f,
+    S: BackendSelection,
+    R: KeyRule + Drop,
+    C: HealthCheck + Drop,
+    W: Wait,
+> SchedulePort for LockedPort<'g, 'r, 'f, S, W, R, C> {
     ghost scheduled = { λ p ms settings now r q. ScheduledUnder R.gives p.group.now ms settings now r × (q.group.now ≡ p.group.now) };
-
-    ghost asked = { λ p slot now r q. AskedUnder p.group.now.core slot now r × (q.group.now ≡ p.group.now) };
-
-    ghost entered = { λ p slot r q. EnteredUnder p.group.now.core slot r × (q.group.now ≡ p.group.now) };
-
-    ghost readies = { λ p r b a q. ReadyUnder R.gives p.group.now r b a × (q.group.now ≡ p.group.now) };
-
-    // Nothing is said of the words that other threads' draws leave.
-    ghost draws = { λ p r d q. q.group.now ≡ p.group.now };
-
-    ghost taken = { λ p slot r q. TakenUnder p.group.now.core slot r × (q.group.now ≡ p.group.now) };
-
-    ghost reported = { λ p slot permit q. ReportedUnder R.gives p.group.now slot permit × (q.group.now ≡ p.group.now) };
-
-    ghost owns_permit = { λ p slot permit. OwnsPermit p.group.now.core slot permit };
 
     fn schedule(
         &mut self,
@@ -190,21 +101,49 @@ impl<'g, 'r, 'f, S: BackendSelection, R: KeyRule + Drop, C: HealthCheck + Drop, 
         group.wake_if(brings_orders(&told));
         told
     }
+}
 
-    fn ask(&mut self, slot: usize, now: u128) -> Result<Ask<S>, Refusal> {
+impl<
+    'g,
+    'r,
+    'f,
+    S: BackendSelection,
+    R: KeyRule + Drop,
+    C: HealthCheck + Drop,
+    W: Wait,
+> TakesReaders<Reader<S>> for LockedPort<'g, 'r, 'f, S, W, R, C> {
+    ghost owns_reader = { λ p r. r.group ≡ p.group.now.core.group.id };
+
+    ghost left = { λ p r q. LeftUnder p.group.now.core r × (q.group.now ≡ p.group.now) };
+
+    fn leave(&mut self, reader: Reader<S>) {
         let group = self.group;
-        let gates: &SelectorRebuildGate = &*group.gate;
+        let _gate = &group.gate;
+        let slot = reader.slot();
+        let generation = reader.generation();
         let mut held = group.lock.take(self.rt);
         held.value.founded();
-        let mut gate = take_gate(gates, self.rt);
-        let told = held.value.ask(slot, &mut gate.value, now);
-        put_gate(gates, gate);
+        let served = held.value.core().served(slot);
+        let told = held.value.leave(reader);
+        let is_last = group.has_last_left(slot, served != Some(generation), told.is_ok());
         group.lock.put(held);
-        if let Ok(Ask::Job(job)) = &told {
-            group.expect(self.rt, slot, job.generation());
+        group.wake_if(is_last);
+        match told {
+            Ok(()) => {}
+            Err(reader) => end_reader(reader),
         }
-        told
     }
+}
+
+impl<'g, 'r, 'f, S: BackendSelection, R: KeyRule + Drop, C: HealthCheck + Drop, W: Wait> SelectPort<
+    S,
+> for LockedPort<'g, 'r, 'f, S, W, R, C> {
+    ghost entered = { λ p slot r q. EnteredUnder p.group.now.core slot r × (q.group.now ≡ p.group.now) };
+
+    ghost readies = { λ p r b a q. ReadyUnder R.gives p.group.now r b a × (q.group.now ≡ p.group.now) };
+
+    // Nothing is said of the words that other threads' draws leave.
+    ghost draws = { λ p r d q. q.group.now ≡ p.group.now };
 
     fn enter(&mut self, slot: usize) -> Result<Reader<S>, Refusal> {
         let group = self.group;
@@ -247,6 +186,100 @@ impl<'g, 'r, 'f, S: BackendSelection, R: KeyRule + Drop, C: HealthCheck + Drop, 
         group.loads.get(self.rt, words, backend)
     }
 
+    ghost draws_keep = { λ p r d q same own. subst (λ v. r.group ≡ v.core.group.id) (sym same) own };
+
+    ghost readies_keep = { λ p r b a q told own. subst (λ v. r.group ≡ v.core.group.id) (sym told.1) own };
+}
+
+impl<
+    'g,
+    'r,
+    'f,
+    S: BackendSelection,
+    R: KeyRule + Drop,
+    C: HealthCheck + Drop,
+    W: Wait,
+> TakesBuilds<RefusedJob<S>, Built<S>> for LockedPort<'g, 'r, 'f, S, W, R, C> {
+    ghost owns_refused = { λ p r. OwnsJob p.group.now.core r.task };
+
+    ghost owns_built = { λ p b. OwnsJob p.group.now.core b.task };
+
+    ghost failed = { λ p r now q. FailedUnder R.gives p.group.now r.task now × (q.group.now ≡ p.group.now) };
+
+    ghost published = { λ p b t q. PublishedUnder p.group.now.core b t × (q.group.now ≡ p.group.now) };
+
+    fn fail(&mut self, refused: RefusedJob<S>, now: u128) {
+        let group = self.group;
+        let registries: &HealthRegistry<R, C> = &*group.registry;
+        let job = refused.into_job();
+        let slot = job.slot();
+        let gates: &SelectorRebuildGate = &*group.gate;
+        let mut held = group.lock.take(self.rt);
+        // `_gate` and `founded()` are for the prover alone: they show it the group's invariant, and do nothing at run time.
+        held.value.founded();
+        let mut cells = take_registry(registries, self.rt);
+        let mut gate = take_gate(gates, self.rt);
+        let told = held.value.fail(job, &mut cells.value, &mut gate.value, now);
+        group.note_slot(&held.value, slot);
+        put_gate(gates, gate);
+        put_registry(registries, cells);
+        group.lock.put(held);
+        gates.wakes().wake();
+        match told {
+            Ok(()) => {}
+            Err(job) => end_job(job),
+        }
+    }
+
+    fn publish(&mut self, built: Built<S>) -> Publication {
+        let group = self.group;
+        let _gate = &group.gate;
+        let slot = built.slot();
+        let generation = built.generation();
+        let mut held = group.lock.take(self.rt);
+        held.value.founded();
+        let told = held.value.publish(built);
+        group.note_slot(&held.value, slot);
+        group.lock.put(held);
+        group.fill_lanes(self.rt, slot);
+        group.judge_all(self.rt, slot);
+        match told {
+            Ok(told) => told,
+            Err(built) => {
+                end_built(built);
+                Publication::Abandoned(generation)
+            }
+        }
+    }
+}
+
+impl<'g, 'r, 'f, S: BackendSelection, R: KeyRule + Drop, C: HealthCheck + Drop, W: Wait> WorkPort<S>
+    for LockedPort<'g, 'r, 'f, S, W, R, C> {
+    ghost owns_job = { λ p t. OwnsJob p.group.now.core t };
+
+    ghost asked = { λ p slot now r q. AskedUnder p.group.now.core slot now r × (q.group.now ≡ p.group.now) };
+
+    ghost taken = { λ p slot r q. TakenUnder p.group.now.core slot r × (q.group.now ≡ p.group.now) };
+
+    ghost reported = { λ p slot permit q. ReportedUnder R.gives p.group.now slot permit × (q.group.now ≡ p.group.now) };
+
+    ghost owns_permit = { λ p slot permit. OwnsPermit p.group.now.core slot permit };
+
+    fn ask(&mut self, slot: usize, now: u128) -> Result<Ask<S>, Refusal> {
+        let group = self.group;
+        let gates: &SelectorRebuildGate = &*group.gate;
+        let mut held = group.lock.take(self.rt);
+        held.value.founded();
+        let mut gate = take_gate(gates, self.rt);
+        let told = held.value.ask(slot, &mut gate.value, now);
+        put_gate(gates, gate);
+        group.lock.put(held);
+        if let Ok(Ask::Job(job)) = &told {
+            group.expect(self.rt, slot, job.generation());
+        }
+        told
+    }
+
     fn take_retired(&mut self, slot: usize) -> Result<Retired<S>, Refusal> {
         let group = self.group;
         let _gate = &group.gate;
@@ -279,14 +312,14 @@ impl<'g, 'r, 'f, S: BackendSelection, R: KeyRule + Drop, C: HealthCheck + Drop, 
         }
     }
 
-    ghost draws_keep = { λ p r d q same own. subst (λ v. r.group ≡ v.core.group.id) (sym same) own };
-
-    ghost readies_keep = { λ p r b a q told own. subst (λ v. r.group ≡ v.core.group.id) (sym told.1) own };
-
     ghost built_of = { λ p t ended own. own };
 
     ghost refused_of = { λ p t e own. own };
 }
+
+impl<'g, 'r, 'f, S: BackendSelection, R: KeyRule + Drop, C: HealthCheck + Drop, W: Wait> GroupPort<
+    S,
+> for LockedPort<'g, 'r, 'f, S, W, R, C> {}
 
 // Whether a membership gave the slots orders.
 fn brings_orders(told: &Result<Scheduled, Refusal>) -> bool {

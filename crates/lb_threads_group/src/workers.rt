@@ -2,7 +2,7 @@
 
 use crate::group::SharedGroup;
 use crate::port::LockedPort;
-use lb_balancer_core::port::{GroupPort, TakesBack};
+use lb_balancer_core::port::WorkPort;
 use lb_balancer_core::turn::{Turn, worker_turn};
 use lb_health_core::health_check::HealthCheck;
 use lb_health_core::keys::KeyRule;

@@ -3,7 +3,9 @@
 pub use lb_background::port::RunPort;
 pub use lb_balancer_core::build::{RefusedJob, build};
 pub use lb_balancer_core::plain::PlainPort;
-pub use lb_balancer_core::port::{GroupPort, TakesBack};
+pub use lb_balancer_core::port::{
+    GroupPort, SchedulePort, SelectPort, TakesBuilds, TakesReaders, WorkPort,
+};
 pub use lb_balancer_core::select::select_through;
 pub use lb_balancer_core::turn::{Turn, worker_turn};
 pub use lb_balancer_core::update::update_through;

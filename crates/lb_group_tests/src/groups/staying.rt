@@ -6,7 +6,7 @@ use lb_threads_core::registry::{put_registry, take_registry};
 use pingora_load_balancing::discovery::ServiceDiscovery;
 use pingora_load_balancing::health_check::{HealthCheck, KeyRule, NoRule, Rule};
 use pingora_load_balancing::plain::Counts;
-use pingora_load_balancing::port::{GroupPort, LockedPort, TakesBack, Turn};
+use pingora_load_balancing::port::{LockedPort, Turn, WorkPort};
 use pingora_load_balancing::selection::BackendSelection;
 use pingora_load_balancing::{Backend, HealthRegistry, LoadBalancerGroup, Refusal, SharedGroup};
 use std::alloc::Global;
@@ -252,8 +252,8 @@ fn changes_another<S: BackendSelection, R: KeyRule + Drop, C: HealthCheck + Drop
     [shown == Ok(()), flipped == Ok(true)] == [true; 2]
 }
 
-/// A selection takes no lock where its candidate's cell and flag didn't change since the last one, nor does a reading of what is ready:
-/// they go on while this very thread holds the registry, and all the second that another thread does. A flip is seen by the next ones.
+/// A selection takes no lock, nor does a reading of what is ready, also after flips of the backend's cell and a flag: they go on while this
+/// very thread holds the registry, and all the second that another thread does. A flip is seen by the next ones.
 pub fn selects_while_the_registry_is_held<
     S: BackendSelection,
     D: ServiceDiscovery + Drop,
@@ -271,19 +271,23 @@ pub fn selects_while_the_registry_is_held<
     let first = first.expect(rt, "none is ready");
     let asked = group.ready(rt, &first);
     let other = changes_another(rt, alloc, group, registry);
-    let again = selects_as_the_holder(rt, alloc, handle, registry, &first);
-    let count = beside_a_holder(rt, alloc, handle, registry, &first);
     let targets = registry.targets(rt, alloc).expect(rt, "refused");
     let cell = targets.get(0).map(|target| target.cell).unwrap_or(0);
+    let down = registry.observe(rt, cell, false, 1);
+    let up = registry.observe(rt, cell, true, 1);
+    group.set_enable(rt, &first, true);
+    let again = selects_as_the_holder(rt, alloc, handle, registry, &first);
+    let count = beside_a_holder(rt, alloc, handle, registry, &first);
     let flipped = registry.observe(rt, cell, false, 1);
     let third = select_one(rt, alloc, group, 0).expect(rt, "refused");
     let told = [
         published == Turn::Published(1),
         [asked, again, group.ready(rt, &first)] == [true, true, false],
         count >= SELECTIONS,
-        [other, flipped == Ok(true)] == [true; 2],
+        other,
+        [down == Ok(true), up == Ok(true), flipped == Ok(true)] == [true; 3],
         third.is_none(),
         destroyed(rt, group, 0) == Ok(()),
     ];
-    assert_eq!(rt; told, [true; 6]);
+    assert_eq!(rt; told, [true; 7]);
 }

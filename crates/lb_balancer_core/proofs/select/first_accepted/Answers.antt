@@ -35,8 +35,8 @@ ready-ready-requires g c =
     let begins = rw (c.lent_by-of.ensures.members, c.lent_by-of.ensures.config) at c.in_ok-walk.ensures.begins in
     visit_owned _ _ _ _ _ _ _ walks c.args.limit (g.met.S.BackendSelection.rest_starts _) begins c.loop.invariant.0 _ _ _
     c.step.ensures.step
-    (λ x o. g.P.TakesBack.owns_reader x o) (λ x o d y. g.met.P.GroupPort.draws_keep x o d y)
-    (λ x o b a y. g.met.P.GroupPort.readies_keep x o b a y)
+    (λ x o. g.P.TakesReaders.owns_reader x o) (λ x o d y. g.met.P.SelectPort.draws_keep x o d y)
+    (λ x o b a y. g.met.P.SelectPort.readies_keep x o b a y)
     c.requires.own
 
 pub returns-in_err-answer-clause-selects : goal.returns-in_err-answer-clause-selects

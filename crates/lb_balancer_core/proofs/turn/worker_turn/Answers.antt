@@ -10,8 +10,8 @@ pub returns-in-Err-build : goal.returns-in-Err-build
 returns-in-Err-build g c =
     let end = c.now-end in
     let why = c.in-Err-build.ensures.refused in
-    let fails : Fails g.S.BackendSelection.refusal g.K.MomentSource.reads g.K.EndSource.ends g.P.GroupPort.taken g.P.GroupPort.reported
-    g.P.GroupPort.asked g.P.TakesBack.published g.P.TakesBack.failed c.args.slot c.in-Job.job c.ask.new.self c.now-now.new.self
+    let fails : Fails g.S.BackendSelection.refusal g.K.MomentSource.reads g.K.EndSource.ends g.P.WorkPort.taken g.P.WorkPort.reported
+    g.P.WorkPort.asked g.P.TakesBuilds.published g.P.TakesBuilds.failed c.args.slot c.in-Job.job c.ask.new.self c.now-now.new.self
     (turn.Failed c.generation.result c.refusal.result) c.fail.new.self end.new.self = (
       end.result,
       subst (λ (k : g.row.K.Denot). g.K.MomentSource.reads k end.result end.new.self) c.in-Err-build.ensures.unread end.ensures,

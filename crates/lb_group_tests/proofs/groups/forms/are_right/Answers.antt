@@ -48,6 +48,6 @@ map_indices-parts-requires-sync-F g c κs within =
     let y = handle_sync T D R H C W g.S.BackendSelection g.R.KeyRule b.send-S b.send-S-Config b.sync-S
     b.sync-S-Config b.send-D b.sync-D b.send-R b.sync-R b.send-C b.sync-C in
     let q : IsSync (registry.the_row R H g.R.KeyRule) =
-    search (sendable, crosses, registry_crossing.the_sync, b.send-R, b.send-C, b.sync-C) depth 20 in
+    registry_crossing.the_sync R H g.R.KeyRule b.send-R b.send-C b.sync-C in
     let t : IsSync tally.the_row = search (sendable, crosses, tally_crossing.the_sync) depth 20 in
     crossing _ no _ _ _ _ _ _ _ _ _ (copied 4 g.row.W) group (registry.the_row R H g.R.KeyRule) tally.the_row b.sync-W y q t

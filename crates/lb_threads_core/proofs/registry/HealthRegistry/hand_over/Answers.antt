@@ -9,6 +9,12 @@ put-requires-clause-registry g c =
     later c.take-held.ensures.registry (added_or_same c.observe-answer.result
     (Observed c.args.cell (record { ok = c.args.verdict; threshold = c.args.threshold })) is.ok is.err)
 
+pub note_flip-requires : goal.note_flip-requires
+note_flip-requires g c =
+    let is = c.observe-answer.ensures.observed in
+    later c.take-held.ensures.registry (added_or_same c.observe-answer.result
+    (Observed c.args.cell (record { ok = c.args.verdict; threshold = c.args.threshold })) is.ok is.err)
+
 pub returns-clause-observed : goal.returns-clause-observed
 returns-clause-observed g c =
     let is = c.observe-answer.ensures.observed in (
