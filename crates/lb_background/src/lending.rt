@@ -94,7 +94,7 @@ impl<'b, B: LendsToThreads> SharedBackends<'b, B> {
 
     /// Returns whether a backend is ready in the newest membership, without taking memory.
     ///
-    /// Of a member it mostly takes no lock. It does where something changed since it was asked for; in a group also while slot 0 serves an
+    /// Of a member it mostly takes no lock. It does where its flag was set since it was asked for; in a group also while slot 0 serves an
     /// older membership, and once the group is cancelled.
     pub fn ready<W: Wait>(&self, rt: &W, backend: &Backend) -> bool
         ensures { B.judges self.now.lender.now backend.now result }

@@ -124,7 +124,7 @@ impl<
 
     /// Returns whether a backend is ready in the newest membership, without taking memory.
     ///
-    /// Of a member it takes no lock where nothing changed since it was asked for.
+    /// Of a member it takes no lock where its flag wasn't set since it was asked for.
     pub(crate) fn ready<W: Wait>(&self, rt: &W, backend: &Backend) -> bool
         ensures { JudgedBy R.gives self.now backend.now result }
     {
