@@ -2,7 +2,7 @@
 //! The clock goes on by five at each reading. The owner of what the port borrows makes one call with it.
 use crate::asserted::assert_same;
 use crate::balance::balancers::Rows;
-use crate::told::{Answer, DONE, Members, Ticks, Told, YES, always, is_at};
+use crate::told::{Answer, DONE, Members, Ticks, Told, YES, always, is_at, one_slot};
 use lb_balancer_core::plain::PlainPort;
 use lb_balancer_core::port::GroupPort;
 use lb_balancer_core::select::select_through;
@@ -154,9 +154,12 @@ fn plays<P: GroupPort<RoundRobin>>(alloc: Global, port: &mut P, row: usize, rt: 
 fn played(alloc: Global, row: usize, rt: &impl Abort) -> Result<(), Refusal> {
     let mut registry = RegistryCore::new(alloc);
     let mut gate = GateCore::new(alloc)?;
-    let mut configs = Vec::new(alloc);
-    configs.push(())?;
-    let mut core: GroupCore<RoundRobin> = GroupCore::new(alloc, &mut registry, &gate, configs)?;
+    let mut core: GroupCore<RoundRobin> = GroupCore::new(
+        alloc,
+        &mut registry,
+        &gate,
+        one_slot(alloc)?,
+    )?;
     let mut generator = Pcg64::new(1, 2);
     let loads = Loads::new();
     let mut port = PlainPort {

@@ -54,6 +54,13 @@ impl MomentSource for Ticks {
     }
 }
 
+/// The configuration of one slot whose selector needs none.
+pub(crate) fn one_slot(alloc: Global) -> Result<Vec<()>, Refusal> {
+    let mut configs = Vec::new(alloc);
+    configs.push(())?;
+    Ok(configs)
+}
+
 /// The discovery that always answers these.
 pub(crate) fn always<D>(
     alloc: Global,

@@ -1,4 +1,6 @@
 //! A plain group that gets another gate.
+ghost use Rattle.std.specs.Prelude.{◌≡◌, IfOk};
+
 use crate::asserted::assert_same;
 use crate::balance::balancers::Rows;
 use crate::told::Ticks;
@@ -26,36 +28,50 @@ fn is_busy<S: BackendSelection>(ask: Ask<S>) -> bool {
     }
 }
 
-// Whether a slot of a group that got another gate asks that one, while its permit is out.
-fn asks_another_gate(alloc: Global) -> Result<bool, Refusal> {
-    let mut registry = RegistryCore::new(alloc);
-    let first = GateCore::new(alloc)?;
-    let mut gate = GateCore::new(alloc)?;
+type Group = LoadBalancerGroupCore<LeastConnections, Rows>;
+
+// A group with one slot in this registry, on this gate.
+fn group_on(alloc: Global, registry: &mut RegistryCore, gate: &GateCore) -> Result<Group, Refusal>
+    ensures { IfOk result (λ g. g.group.registry ≡ registry.new.id) }
+{
     let mut configs = Vec::new(alloc);
     configs.push(None)?;
     let source = DiscoverySource::Boxed(Rows::from(0));
-    let mut group: LoadBalancerGroupCore<LeastConnections, Rows> =
-        LoadBalancerGroupCore::from_backends_with_configs(
-            alloc,
-            &mut registry,
-            &first,
-            source,
-            configs,
-        )?;
+    LoadBalancerGroupCore::from_backends_with_configs(alloc, registry, gate, source, configs)
+}
+
+// Whether the slot of a group that gets this gate asks it, while its permit is out.
+fn finds_busy(
+    alloc: Global,
+    group: &mut Group,
+    registry: &mut RegistryCore,
+    gate: &mut GateCore,
+) -> Result<bool, Refusal>
+    requires { registry.old.id ≡ group.old.group.registry }
+{
     if group.backend_generation() != 0 {
         return Ok(false);
     }
-    group.with_rebuild_gate(&gate);
-    group.update(alloc, &mut registry, &mut Ticks { next: 0 })?;
+    group.with_rebuild_gate(gate);
+    group.update(alloc, registry, &mut Ticks { next: 0 })?;
     let Some(permit) = gate.grant() else {
         return Ok(false);
     };
-    let asked = group.group.ask(0, &mut gate, 10);
+    let asked = group.group.ask(0, gate, 10);
     gate.give_back(permit);
     match asked {
         Ok(ask) => Ok(is_busy(ask)),
         Err(_) => Ok(false),
     }
+}
+
+// Whether a group that was made on one gate asks another one, which it gets.
+fn asks_another_gate(alloc: Global) -> Result<bool, Refusal> {
+    let first = GateCore::new(alloc)?;
+    let mut gate = GateCore::new(alloc)?;
+    let mut registry = RegistryCore::new(alloc);
+    let mut group = group_on(alloc, &mut registry, &first)?;
+    finds_busy(alloc, &mut group, &mut registry, &mut gate)
 }
 
 #[test]

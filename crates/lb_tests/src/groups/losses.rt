@@ -4,6 +4,7 @@ ghost use Rattle.std.specs.Prelude.{◌≡◌};
 ghost use Rattle.lb_rebuild_core.specs.GroupStates.{SameSite};
 
 use crate::selection::fixtures::set_of;
+use crate::told::one_slot;
 use lb_health_core::registry::RegistryCore;
 use lb_health_view::view::Settings;
 use lb_rebuild_core::answers::{Ask, Counts};
@@ -147,9 +148,7 @@ fn told(
 fn played(alloc: Global) -> Result<([u64; 4], [Figures; 2]), Refusal> {
     let mut registry = RegistryCore::new(alloc);
     let mut gate = GateCore::new(alloc)?;
-    let mut configs = Vec::new(alloc);
-    configs.push(())?;
-    let mut group: Group = GroupCore::new(alloc, &mut registry, &gate, configs)?;
+    let mut group: Group = GroupCore::new(alloc, &mut registry, &gate, one_slot(alloc)?)?;
     told(alloc, &mut registry, &mut gate, &mut group)
 }
 

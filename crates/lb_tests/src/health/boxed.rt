@@ -41,10 +41,22 @@ fn checked(
 ) -> Result<[bool; 2], Refusal> {
     let mut registry = RegistryCore::new(alloc);
     let mut view = ViewCore::register(alloc, &mut registry)?;
-    update_by(alloc, source, &mut registry, &mut view)?;
-    let before = is_ready(&registry, &view);
-    run_health_check(log, alloc, &mut registry, check)?;
-    Ok([before, is_ready(&registry, &view)])
+    checked_in(alloc, source, &mut registry, &mut view, check, log)
+}
+
+// The same in this view.
+fn checked_in(
+    alloc: Global,
+    source: &DiscoverySource<BoxedDiscovery>,
+    registry: &mut RegistryCore,
+    view: &mut ViewCore,
+    check: &impl HealthCheck,
+    log: &impl Log,
+) -> Result<[bool; 2], Refusal> {
+    update_by(alloc, source, registry, view)?;
+    let before = is_ready(registry, view);
+    run_health_check(log, alloc, registry, check)?;
+    Ok([before, is_ready(registry, view)])
 }
 
 // Where nobody listens, what the discovery found becomes unhealthy, and the observer is told so once.

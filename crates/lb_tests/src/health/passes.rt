@@ -315,18 +315,30 @@ fn shared(
     check: &Counting,
     log: &impl Log,
 ) -> Result<Shared, Refusal> {
-    let light = Backend::new(alloc, "1.0.0.1:80")?;
     let mut first = view_of(alloc, registry, ("1.0.0.1:80", 1))?;
     let second = view_of(alloc, registry, ("2.0.0.1:80", 2))?;
+    seen(alloc, registry, &mut first, &second, check, log)
+}
+
+// The same of these views.
+fn seen(
+    alloc: Global,
+    registry: &mut RegistryCore,
+    first: &mut ViewCore,
+    second: &ViewCore,
+    check: &Counting,
+    log: &impl Log,
+) -> Result<Shared, Refusal> {
+    let light = Backend::new(alloc, "1.0.0.1:80")?;
     let targets = registry.target_count(alloc);
     let passed = run_health_check(log, alloc, registry, check);
-    let (one, other) = (is_ready(registry, &first), is_ready(registry, &second));
+    let (one, other) = (is_ready(registry, first), is_ready(registry, second));
     first.set_enable(&light, false);
     let ready = [
         one,
         other,
-        is_ready(registry, &first),
-        is_ready(registry, &second),
+        is_ready(registry, first),
+        is_ready(registry, second),
     ];
     Ok((targets, passed, ready))
 }
