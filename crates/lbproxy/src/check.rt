@@ -62,11 +62,12 @@ fn asking<N: Drop>(
     path: &str,
     limit: Option<u128>,
 ) -> Result<HttpHealthCheck<N>, Refusal> {
+    let req = request_at(alloc, request_for(alloc, Method::GET, host)?, path)?;
     let mut check = HttpHealthCheck::new(alloc, net, host)?;
     check.peer_template.connection_timeout = limit;
     check.peer_template.read_timeout = limit;
     check.peer_template.write_timeout = limit;
-    check.req = request_at(alloc, request_for(alloc, Method::GET, host)?, path)?;
+    check.req = req;
     Ok(check)
 }
 

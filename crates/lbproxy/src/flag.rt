@@ -3,9 +3,9 @@
 use crate::pool::Pool;
 use crate::proxy::Proxy;
 use log::{Log, info};
-use pingora_load_balancing::Refusal;
 use pingora_load_balancing::health_check::HealthCheck;
-use std::alloc::Global;
+use pingora_load_balancing::{Backend, Refusal};
+use std::alloc::{AllocError, Global};
 use std::sync::Wait;
 
 // A backend by its pool and its address, and whether it is to be enabled.
@@ -60,18 +60,27 @@ fn set_in<R: Log + Wait + Copy + Drop, C: HealthCheck + Drop>(
     let members = pool.group.backends().get_backend(rt)?;
     let mut is_there = false;
     for backend in members.iter() {
-        let addr = &backend.addr;
-        let address = format!(in alloc; "{addr}")?;
-        if address.as_str() == flag.address {
+        if is_at(alloc, backend, flag.address)? {
             pool.group.backends().set_enable(rt, backend, flag.enabled);
             is_there = true;
         }
     }
     if is_there {
-        let name = pool.name.as_str();
-        let address = flag.address;
-        let said = if flag.enabled { "enabled" } else { "disabled" };
-        info!(rt; "pool {name}: {address} {said}");
+        tell(rt, flag);
     }
     Ok(is_there)
+}
+
+// Whether this is how the address of the backend is written.
+fn is_at(alloc: Global, backend: &Backend, address: &str) -> Result<bool, AllocError> {
+    let addr = &backend.addr;
+    let text = format!(in alloc; "{addr}")?;
+    Ok(text.as_str() == address)
+}
+
+// Logs that the flag was set.
+fn tell<R: Log>(rt: &R, flag: &Flag<'_>) {
+    let (name, address) = (flag.pool, flag.address);
+    let said = if flag.enabled { "enabled" } else { "disabled" };
+    info!(rt; "pool {name}: {address} {said}");
 }

@@ -1,6 +1,6 @@
 //! What a proxy is doing, as values that the status page shows.
 
-use crate::pool::{Pool, Traffic};
+use crate::pool::Pool;
 use crate::proxy::Proxy;
 use log::Log;
 use pingora_load_balancing::health_check::HealthCheck;
@@ -118,23 +118,22 @@ fn shown_backends<R: Log + Wait + Copy + Drop, C: HealthCheck + Drop>(
     let members = pool.group.backends().get_backend(rt)?;
     let mut backends = Vec::new(alloc);
     for backend in members.iter() {
-        let ready = pool.group.backends().ready(rt, backend);
-        let traffic = pool.traffic_of(rt, backend);
-        backends.push(shown_backend(alloc, backend, ready, traffic)?)?;
+        backends.push(shown_backend(rt, alloc, pool, backend)?)?;
     }
     Ok(backends)
 }
 
 // A backend, and what it has carried.
-fn shown_backend(
+fn shown_backend<R: Log + Wait + Copy + Drop, C: HealthCheck + Drop>(
+    rt: &R,
     alloc: Global,
+    pool: &Pool<R, C>,
     backend: &Backend,
-    ready: bool,
-    traffic: Traffic,
 ) -> Result<ShownBackend, Refusal> {
+    let traffic = pool.traffic_of(rt, backend);
     Ok(ShownBackend {
         address: format!(in alloc; "{backend}")?,
-        ready,
+        ready: pool.group.backends().ready(rt, backend),
         live: traffic.live,
         total: traffic.total,
         requests: traffic.requests,
