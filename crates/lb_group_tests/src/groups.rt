@@ -64,11 +64,10 @@ enum OfGroups {
     WorkerOfOneLetGo,
     ClockGoesBack,
     CancelledWhileRead,
-    ReadyWhileBehind,
     TicketsOfEach,
 }
 
-const ROWS: [Row; 18] = [
+const ROWS: [Row; 17] = [
     Row::OfHandle(OfHandle::WithoutWorkers),
     Row::OfHandle(OfHandle::WithWorkers),
     Row::OfHandle(OfHandle::StartsButOne),
@@ -85,7 +84,6 @@ const ROWS: [Row; 18] = [
     Row::OfGroups(OfGroups::WorkerOfOneLetGo),
     Row::OfGroups(OfGroups::ClockGoesBack),
     Row::OfGroups(OfGroups::CancelledWhileRead),
-    Row::OfGroups(OfGroups::ReadyWhileBehind),
     Row::OfGroups(OfGroups::TicketsOfEach),
 ];
 
@@ -153,7 +151,6 @@ fn play_groups<
         OfGroups::CancelledWhileRead => {
             staying::cancelled_while_read(rt, alloc, first, registry)
         }
-        OfGroups::ReadyWhileBehind => staying::ready_while_behind(rt, alloc, first, registry),
         OfGroups::TicketsOfEach => tickets::tickets_of_each(rt, alloc, first),
     }
 }

@@ -4,4 +4,3 @@ mod Findings
 pub mod NumberLemmas
 pub mod Releases
 pub mod Sites
-mod Unlisted

@@ -22,6 +22,7 @@ use lb_threads_core::lanes::Lanes;
 use lb_threads_core::registry::HealthRegistry;
 use std::marker::Model;
 use std::snapshot::Snapshot;
+use std::sync::atomic::Ordering::SeqCst;
 use std::sync::{Arc, Wait};
 
 /// Which group and which registry the readers of lanes are of. It has no bytes.
@@ -121,7 +122,7 @@ impl<S: BackendSelection, R: KeyRule + Drop, C: HealthCheck + Drop> SharedGroup<
         let _board = &self.board;
         let mut pass = self.board.pass();
         self.board.selector_generation_as(slot, &mut pass) == Some(entry.reader.generation())
-            && self.is_open()
+            && !self.marks.is_closed.load(SeqCst)
     }
 
     // Reads what the hint's lane of a slot has, if it is of what the slot serves now.
@@ -207,7 +208,7 @@ impl<S: BackendSelection, R: KeyRule + Drop, C: HealthCheck + Drop> SharedGroup<
         }
         let mut pass = self.board.pass();
         if self.board.selector_generation_as(slot, &mut pass) != Some(generation)
-            || !self.is_open()
+            || self.marks.is_closed.load(SeqCst)
         {
             self.clear_lane(rt, lanes, hint);
         }
@@ -223,26 +224,17 @@ impl<S: BackendSelection, R: KeyRule + Drop, C: HealthCheck + Drop> SharedGroup<
     }
 
     // Gives each lane of a slot a reader of what the slot serves now. It is for the thread that publishes, so that requests seldom have to
-    // enter. A lane that is read is emptied by its last reader, and gets its reader after all others.
+    // enter. A lane that is read is emptied by its last reader.
     pub(crate) fn fill_lanes<W: Wait>(&self, rt: &W, slot: usize) {
         let Some(lanes) = self.lanes_of(slot) else {
             return;
         };
         for lane in 0..lanes.count() {
-            self.clear_lane(rt, lanes, lane as u64);
-            self.fill_lane(rt, slot, lane as u64);
-        }
-        for lane in 0..lanes.count() {
-            if lanes.is_free(lane as u64) {
-                self.fill_lane(rt, slot, lane as u64);
+            let hint = lane as u64;
+            self.clear_lane(rt, lanes, hint);
+            if let Ok(entry) = self.enter_lane(rt, slot) {
+                self.keep(rt, hint, entry);
             }
-        }
-    }
-
-    // Gives a lane of a slot a reader of what the slot serves now.
-    fn fill_lane<W: Wait>(&self, rt: &W, slot: usize, lane: u64) {
-        if let Ok(entry) = self.enter_lane(rt, slot) {
-            self.keep(rt, lane, entry);
         }
     }
 
