@@ -94,8 +94,8 @@ impl<'b, B: LendsToThreads> SharedBackends<'b, B> {
 
     /// Returns whether a backend is ready in the newest membership, without taking memory.
     ///
-    /// Of a member it mostly takes no lock. It does where its flag was set since it was asked for; in a group also while slot 0 serves an
-    /// older membership, and once the group is cancelled.
+    /// It mostly takes no lock. It does before the first update and while one that another thread makes hasn't returned yet, where memory
+    /// for words was refused, and once a group is cancelled or a balancer left its registry.
     pub fn ready<W: Wait>(&self, rt: &W, backend: &Backend) -> bool
         ensures { B.judges self.now.lender.now backend.now result }
     {

@@ -37,12 +37,10 @@ use lb_select_base::moments::MomentSource;
 use lb_select_base::refusal::Refusal;
 use lb_select_base::walk::BackendSelection;
 use lb_threads_core::backends::{Backends, BackendsParts, registered_view};
-use lb_threads_core::changes::ChangeCounts;
 use lb_threads_core::generators::SharedGenerator;
 use lb_threads_core::lanes::Lanes;
 use lb_threads_core::loads::SharedLoads;
 use lb_threads_core::lock::KeyedLock;
-use lb_threads_core::marks::{flag_of, spread_of};
 use lb_threads_core::numbers::KeyedNumbers;
 use lb_threads_core::owner::ViewOwner;
 use lb_threads_core::registry::{HealthRegistry, cell_words_of, put_registry, take_registry};
@@ -51,8 +49,8 @@ use std::collections::BTreeSet;
 use std::marker::Model;
 use std::mem;
 use std::snapshot::Snapshot;
-use std::sync::atomic::AtomicU64;
 use std::sync::atomic::Ordering::SeqCst;
+use std::sync::atomic::{AtomicBool, AtomicU64};
 use std::sync::{Arc, Mutex, Wait};
 
 type ServingLock<S, D, R, C> = KeyedLock<Serving<S>, Snapshot<Origin<S, D, R, C>>, OfServing>;
@@ -77,7 +75,6 @@ struct Places<S: BackendSelection, D, R: KeyRule + Drop, C> {
     lanes: Lanes<KeptShown<S, D, R, C>>,
     generator: SharedGenerator,
     loads: Arc<SharedLoads>,
-    flags: ChangeCounts,
     alloc: Global,
 }
 
@@ -89,7 +86,7 @@ pub struct Balancing<S: BackendSelection, D, R: KeyRule + Drop, C> {
     view: ViewOwner,
     updates: Mutex<()>,
     pub(crate) serving: ServingLock<S, D, R, C>,
-    shown: ShownLock<S, D, R, C>,
+    pub(crate) shown: ShownLock<S, D, R, C>,
     // Noted while what is served is locked.
     generation: GenerationNumber<S, D, R, C>,
     pub(crate) lanes: Lanes<KeptShown<S, D, R, C>>,
@@ -99,9 +96,10 @@ pub struct Balancing<S: BackendSelection, D, R: KeyRule + Drop, C> {
     loads: Arc<SharedLoads>,
     // For what `get_backend` may have to show anew.
     alloc: Global,
-    // Counts what may have changed what is ready, but for the registry's own changes; and by backend, what may have changed its flag.
+    // Counts what may have changed what is ready, but for the registry's own changes.
     pub(crate) changes: AtomicU64,
-    pub(crate) flags: ChangeCounts,
+    // Whether the view was removed from the registry.
+    pub(crate) has_left: AtomicBool,
     seeds: AtomicU64,
 }
 
@@ -120,7 +118,7 @@ impl<S: BackendSelection, D: Drop, R: KeyRule + Drop, C: Drop> Drop for Balancin
             loads: _,
             alloc: _,
             changes: _,
-            flags: _,
+            has_left: _,
             seeds: _,
         } = self;
     }
@@ -218,7 +216,6 @@ impl<
             lanes,
             generator,
             loads,
-            flags,
             alloc,
         } = places;
         Balancing {
@@ -234,7 +231,7 @@ impl<
             loads,
             alloc,
             changes: AtomicU64::new(0),
-            flags,
+            has_left: AtomicBool::new(false),
             seeds: AtomicU64::new(1),
         }
     }
@@ -323,11 +320,9 @@ impl<
             .served
             .keep(alloc, &mut cells.value, members, settings);
         put_registry(registries, cells);
+        self.note_settings(rt, &held.value, has_settings);
         self.serving.put(held);
         self.changes.fetch_add(1, SeqCst);
-        if has_settings {
-            self.flags.note_all();
-        }
         None
     }
 
@@ -559,17 +554,16 @@ impl<
 
     /// Enables or disables a backend of the newest membership, by identity; another is left alone.
     ///
-    /// It takes no memory.
+    /// Selections that begin after it go by it. It takes no memory.
     pub(crate) fn set_enable<W: Wait>(&self, rt: &W, backend: &Backend, enabled: bool)
         ensures { UnderServing self.now (SetsFlag backend.now enabled) }
     {
         let _key = &self.origin;
         let mut held = self.serving.take(rt);
         held.value.served.set_enable(backend, enabled);
+        self.note_flags(rt, &held.value, Some(backend));
         self.serving.put(held);
         self.changes.fetch_add(1, SeqCst);
-        self.flags.note(flag_of(spread_of(backend)));
-        self.judge_all(rt);
     }
 
     /// Sets the load of a backend's identity, which outlives each update.
@@ -602,7 +596,7 @@ impl<
         put_registry(registries, cells);
         self.serving.put(held);
         self.changes.fetch_add(1, SeqCst);
-        self.flags.close();
+        self.has_left.store(true, SeqCst);
     }
 
     /// Sets the check of the registry.
@@ -750,7 +744,6 @@ fn places_over<S: BackendSelection, D, R: KeyRule + Drop, C: HealthCheck + Drop,
         lanes,
         generator,
         loads,
-        flags: ChangeCounts::new(alloc)?,
         alloc,
     })
 }

@@ -1,15 +1,15 @@
 //! Readiness at the moment when a selection asks for it: the words of its candidate and of the candidate's cell say it, and where they
-//! don't, or the flag changed since, view and registry do, under their locks.
+//! don't, view and registry do, under their locks. Who sets a flag writes its word.
 ghost use Rattle.std.specs.Prelude.{◌≡◌, IfErr, IfSome, OnOk};
 ghost use Rattle.std.specs.Arc.{arc_value};
 ghost use Rattle.lb_rebuild_core.specs.GroupCalls.{AcceptsBy};
-ghost use Rattle.lb_balancer.specs.History.{JudgedBy, JudgedIn};
+ghost use Rattle.lb_balancer.specs.History.{IsServedBy, JudgedBy, JudgedIn};
 ghost use Rattle.lb_balancer.specs.Kept.{IsKept};
 ghost use Rattle.lb_balancer.specs.Selections.{IsReadyIn, SelectsFrom};
 
 use crate::balancing::Balancing;
 use crate::kept::KeptShown;
-use crate::readiness::Judged;
+use crate::serving::Serving;
 use crate::shown::Shown;
 use lb_health_core::health_check::HealthCheck;
 use lb_health_core::keys::KeyRule;
@@ -17,13 +17,13 @@ use lb_health_view::discovery::ServiceDiscovery;
 use lb_select_base::backend::Backend;
 use lb_select_base::refusal::Refusal;
 use lb_select_base::walk::BackendSelection;
-use lb_threads_core::changes::Stamp;
 use lb_threads_core::flag_words::Flagged;
 use lb_threads_core::generators::SharedGenerator;
-use lb_threads_core::marks::{flag_of, spread_of};
+use lb_threads_core::marks::spread_of;
 use lb_threads_core::registry::{put_registry, take_registry};
 use std::alloc::Global;
 use std::sync::Wait;
+use std::sync::atomic::Ordering::SeqCst;
 
 impl<
     S: BackendSelection,
@@ -31,14 +31,83 @@ impl<
     R: KeyRule + Drop,
     C: HealthCheck + Drop,
 > Balancing<S, D, R, C> {
-    // Whether the flag that was found of a backend is the one of now, and its cell is kept. Of a balancer that left its registry that isn't
-    // known, since others' calls may then remove its cells.
+    // Whether words are used. They aren't once the balancer left its registry, since others' calls may then remove its cells.
     #[inline]
-    pub(crate) fn is_of_now(&self, spread: u64, stamp: Stamp) -> bool {
-        stamp.is_of_now(&self.flags, flag_of(spread))
+    pub(crate) fn is_registered(&self) -> bool {
+        !self.has_left.load(SeqCst)
     }
 
-    // Whether a backend is ready for selections in what is kept, by its words where they are of now. Where another generation is served
+    // Has the words of what is served say whether a backend is enabled, or each one for `None`. The caller has the lock of what is served,
+    // so that a later flag is noted later.
+    pub(crate) fn note_flags<W: Wait>(
+        &self,
+        rt: &W,
+        serving: &Serving<S>,
+        backend: Option<&Backend>,
+    )
+        requires { IsServedBy self.now serving.now.served }
+    {
+        let _key = &self.origin;
+        let held = self.shown.take(rt);
+        self.note_flags_in(&held.value, serving, backend);
+        self.shown.put(held);
+    }
+
+    // Has each word of what is served say whether its backend is enabled, where settings came. The caller has the lock of what is served.
+    pub(crate) fn note_settings<W: Wait>(&self, rt: &W, serving: &Serving<S>, has_settings: bool)
+        requires { IsServedBy self.now serving.now.served }
+    {
+        if has_settings {
+            self.note_flags(rt, serving, None);
+        }
+    }
+
+    // Has the words that are kept say whether a backend is enabled, or each one for `None`.
+    fn note_flags_in(
+        &self,
+        kept: &KeptShown<S, D, R, C>,
+        serving: &Serving<S>,
+        backend: Option<&Backend>,
+    )
+        requires kept { IsKept R.gives self.now kept.now.shown kept.now.ready }
+        requires served { IsServedBy self.now serving.now.served }
+    {
+        if let Some(backend) = backend {
+            self.note_flag(kept, serving, backend);
+            return;
+        }
+        for mark in kept.marks() {
+            if let Some(backend) = mark {
+                self.note_flag(kept, serving, backend);
+            }
+        }
+    }
+
+    // Has the word of a backend say which cell it has, and whether it is enabled, where what is kept is served. Returns the cell.
+    fn note_flag(
+        &self,
+        kept: &KeptShown<S, D, R, C>,
+        serving: &Serving<S>,
+        backend: &Backend,
+    ) -> Option<u64>
+        requires kept { IsKept R.gives self.now kept.now.shown kept.now.ready }
+        requires served { IsServedBy self.now serving.now.served }
+    {
+        let generation = kept.generation();
+        if serving.served.generation() != generation {
+            return None;
+        }
+        let (cell, is_enabled) = serving.served.cell_and_flag(backend)?;
+        let flagged = Flagged {
+            cell,
+            is_enabled,
+            is_newest: true,
+        };
+        kept.note_flag(backend, flagged);
+        Some(cell)
+    }
+
+    // Whether a backend is ready for selections in what is kept, by its words. Where it has none, and another generation is served
     // meanwhile, whose view doesn't say it any more, it is as it was found last.
     pub(crate) fn judge<W: Wait>(
         &self,
@@ -52,7 +121,7 @@ impl<
         let spread = spread_of(backend);
         let judged = kept.said(backend, spread);
         match judged {
-            Some(judged) if self.is_of_now(spread, judged.stamp) => judged.ready,
+            Some(ready) if self.is_registered() => ready,
             _ => self.judge_again(rt, kept, backend, judged),
         }
     }
@@ -65,17 +134,17 @@ impl<
         rt: &W,
         kept: &KeptShown<S, D, R, C>,
         backend: &Backend,
-        judged: Option<Judged>,
+        judged: Option<bool>,
     ) -> bool
         requires kept { IsKept R.gives self.now kept.now.shown kept.now.ready }
-        requires judged { IfSome judged (λ j. JudgedIn R.gives self.now (arc_value kept.now.shown).generation backend.now j.ready) }
+        requires judged { IfSome judged (JudgedIn R.gives self.now (arc_value kept.now.shown).generation backend.now) }
         ensures { IsReadyIn R.gives self.now (arc_value kept.now.shown) backend.now result }
     {
         if let Some(ready) = self.ask(rt, kept, backend) {
             return ready;
         }
         match judged {
-            Some(judged) => judged.ready,
+            Some(ready) => ready,
             None => kept.was_ready(backend),
         }
     }
@@ -87,7 +156,6 @@ impl<
     {
         let _key = &self.origin;
         let generation = kept.generation();
-        let stamp = Stamp::new(&self.flags, flag_of(spread_of(backend)));
         let held = self.serving.take(rt);
         if held.value.served.generation() != generation {
             self.serving.put(held);
@@ -96,21 +164,15 @@ impl<
         let registries = self.origin.registry();
         let cells = take_registry(registries, rt);
         let ready = held.value.served.ready(&cells.value, backend);
-        if let Some((cell, is_enabled)) = held.value.served.cell_and_flag(backend) {
-            let flagged = Flagged {
-                cell,
-                is_enabled,
-                is_newest: true,
-                stamp,
-            };
-            kept.note(backend, flagged, cells.value.cell_ready(cell));
+        if let Some(cell) = self.note_flag(kept, &held.value, backend) {
+            kept.note_health(cell, cells.value.cell_ready(cell));
         }
         put_registry(registries, cells);
         self.serving.put(held);
         Some(ready)
     }
 
-    // Judges each member that has a word. It is for the thread that updates, sets a flag or checks, so that requests seldom have to ask.
+    // Judges each member that has no word yet. It is for the thread that updates or checks, so that requests seldom have to ask.
     pub(crate) fn judge_all<W: Wait>(&self, rt: &W) {
         let Ok(kept) = self.latest(rt) else {
             return;
@@ -124,7 +186,8 @@ impl<
 
     /// Returns whether a backend is ready in the newest membership, without taking memory.
     ///
-    /// Of a member it takes no lock where its flag wasn't set since it was asked for.
+    /// It mostly takes no lock. It does before the first update and while one that another thread makes hasn't returned yet, where memory
+    /// for words was refused, and once the balancer left its registry.
     pub(crate) fn ready<W: Wait>(&self, rt: &W, backend: &Backend) -> bool
         ensures { JudgedBy R.gives self.now backend.now result }
     {

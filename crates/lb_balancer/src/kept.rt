@@ -1,6 +1,5 @@
 //! What a balancer keeps in its lanes, and selections in it without a lock. A selection finds out by one load whether its lane has the
-//! generation that is served now, and by three whether a backend is ready: those of its word, of the changes of its flag, and of its cell's
-//! word.
+//! generation that is served now, and by two whether a backend is ready: those of its word and of its cell's word.
 ghost use Rattle.std.specs.Prelude.{◌≡◌, IfErr, IfOk, IfSome, OnOk};
 ghost use Rattle.std.specs.Arc.{arc_value};
 ghost use Rattle.lb_rebuild_core.specs.GroupCalls.{AcceptsBy};
@@ -12,7 +11,7 @@ ghost use Rattle.lb_threads_core.specs.CellWords.{WasHealthy};
 
 use crate::balancing::Balancing;
 use crate::origin::Origin;
-use crate::readiness::{Judged, Readiness};
+use crate::readiness::Readiness;
 use crate::shown::Shown;
 use counted_slot::Fits;
 use lb_health_core::health_check::HealthCheck;
@@ -82,11 +81,11 @@ impl<S: BackendSelection, D, R: KeyRule + Drop, C> KeptShown<S, D, R, C> {
         (*self.shown).generation()
     }
 
-    // What the words say of a backend whose identity has this number.
+    // Whether a backend whose identity has this number is ready, as the words say.
     #[inline]
-    pub(crate) fn said(&self, backend: &Backend, spread: u64) -> Option<Judged>
+    pub(crate) fn said(&self, backend: &Backend, spread: u64) -> Option<bool>
         ensures { (b : BalancerValue D S.Config R) → IsKept R.gives b self.now.shown self.now.ready
-            → IfSome result (λ judged. JudgedIn R.gives b (arc_value self.now.shown).generation backend.now judged.ready) }
+            → IfSome result (JudgedIn R.gives b (arc_value self.now.shown).generation backend.now) }
     {
         match &self.ready {
             Some(ready) => (**ready).said(backend, spread),
@@ -94,14 +93,22 @@ impl<S: BackendSelection, D, R: KeyRule + Drop, C> KeptShown<S, D, R, C> {
         }
     }
 
-    // Notes the cell and the flag of a backend, and whether that cell is kept and healthy, for others.
-    pub(crate) fn note(&self, backend: &Backend, flagged: Flagged, healthy: bool)
-        requires flagged { IfSome self.now.ready (λ r. FlaggedIn (arc_value r).balancer (arc_value r).number backend.now flagged.cell
+    // Notes the cell and the flag of a backend, for others.
+    pub(crate) fn note_flag(&self, backend: &Backend, flagged: Flagged)
+        requires { IfSome self.now.ready (λ r. FlaggedIn (arc_value r).balancer (arc_value r).number backend.now flagged.cell
             flagged.is_enabled) }
-        requires healthy { IfSome self.now.ready (λ r. WasHealthy R.gives (arc_value r).balancer.registry flagged.cell healthy) }
     {
         if let Some(ready) = &self.ready {
-            (**ready).note(backend, flagged, healthy);
+            (**ready).note_flag(backend, flagged);
+        }
+    }
+
+    // Notes whether a cell is kept and healthy, for others.
+    pub(crate) fn note_health(&self, cell: u64, healthy: bool)
+        requires { IfSome self.now.ready (λ r. WasHealthy R.gives (arc_value r).balancer.registry cell healthy) }
+    {
+        if let Some(ready) = &self.ready {
+            (**ready).note_health(cell, healthy);
         }
     }
 
@@ -151,8 +158,8 @@ impl<
         Some(self.select_kept(rt, alloc, kept, generator, key, max_iterations, accept))
     }
 
-    // Whether a member is ready, as its word says, where the second lane has what is served and the word is of now. The first one lies next
-    // to what other threads read.
+    // Whether a backend is ready in the newest membership, as its words say, or since that doesn't list it, where the second lane has what
+    // is served. The first one lies next to what other threads read.
     pub(crate) fn ready_in_lane(&self, backend: &Backend) -> Option<bool>
         ensures { IfSome result (JudgedBy R.gives self.now backend.now) }
     {
@@ -161,13 +168,24 @@ impl<
         if !self.is_served(kept.generation()) {
             return None;
         }
-        let spread = spread_of(backend);
-        let judged = kept.said(backend, spread)?;
-        if self.is_of_now(spread, judged.stamp) {
-            Some(judged.ready)
-        } else {
-            None
+        if !self.is_registered() {
+            return None;
         }
+        self.ready_in(kept, backend)
+    }
+
+    // Whether a backend is ready in what is kept, as its words say, or since that doesn't list it.
+    fn ready_in(&self, kept: &KeptShown<S, D, R, C>, backend: &Backend) -> Option<bool>
+        requires { IsKept R.gives self.now kept.now.shown kept.now.ready }
+        ensures { IfSome result (JudgedBy R.gives self.now backend.now) }
+    {
+        if let Some(ready) = kept.said(backend, spread_of(backend)) {
+            return Some(ready);
+        }
+        if (*kept.shown).lists(backend) {
+            return None;
+        }
+        Some(false)
     }
 
     // Gives the hint's lane what is kept. Where another generation is served meanwhile, the lane is emptied, so that none has for long
@@ -183,14 +201,23 @@ impl<
         }
     }
 
-    // Gives each lane what was shown last. A lane that is read is emptied by its last reader.
+    // Gives each lane what was shown last. A lane that is read is emptied by its last reader, and gets it after all others.
     pub(crate) fn spread<W: Wait>(&self, rt: &W) {
         for lane in 0..self.lanes.count() {
-            let hint = lane as u64;
-            match self.latest(rt) {
-                Ok(kept) => self.refill(hint, kept),
-                Err(_) => drop(self.lanes.clear(hint, &self.origin)),
+            self.give_latest(rt, lane as u64);
+        }
+        for lane in 0..self.lanes.count() {
+            if self.lanes.is_free(lane as u64) {
+                self.give_latest(rt, lane as u64);
             }
+        }
+    }
+
+    // Gives a lane what was shown last.
+    fn give_latest<W: Wait>(&self, rt: &W, lane: u64) {
+        match self.latest(rt) {
+            Ok(kept) => self.refill(lane, kept),
+            Err(_) => drop(self.lanes.clear(lane, &self.origin)),
         }
     }
 }

@@ -21,8 +21,8 @@ use std::marker::Model;
 use std::sync::Wait;
 
 /// A balancer with what it served last, and with random words of its own. While that is still served a selection takes no lock that another
-/// thread takes, and writes nothing that another thread reads but the tickets it draws: except for a candidate whose flag was set since it
-/// was last asked for. What is served no longer is kept until the next selection.
+/// thread takes, and writes nothing that another thread reads but the tickets it draws: except for a candidate that none asked for yet.
+/// What is served no longer is kept until the next selection.
 pub struct BalancerReader<
     'b,
     S: BackendSelection,

@@ -10,7 +10,6 @@ use lb_health_core::keys::KeyRule;
 use lb_select_base::backend::Backend;
 use lb_select_base::walk::BackendSelection;
 use lb_threads_core::cell_words::CellWords;
-use lb_threads_core::changes::Stamp;
 use lb_threads_core::flag_words::{FlagRule, FlagWords, Flagged};
 use std::alloc::{AllocError, Global};
 use std::collections::BTreeSet;
@@ -43,13 +42,6 @@ impl<S: BackendSelection, D, R: KeyRule + Drop, C> FlagRule<Generation<S, D, R, 
     ghost told = { λ of b cell enabled _. FlaggedIn of.balancer of.number b cell enabled };
 
     ghost by_identity = { λ of b m cell enabled is_newest same told. flagged-same of.balancer of.number b m cell enabled same told };
-}
-
-/// Whether a member is ready, and as of which changes of its flag.
-#[derive(Clone, Copy)]
-pub(crate) struct Judged {
-    pub(crate) ready: bool,
-    pub(crate) stamp: Stamp,
 }
 
 /// Which members of a generation are ready. Contracts see of which balancer, and of which of its generations.
@@ -103,23 +95,28 @@ impl<S: BackendSelection, D, R: KeyRule + Drop, C> Readiness<S, D, R, C> {
         self.generation
     }
 
-    // What the words say of a member whose identity has this number.
+    // Whether a member whose identity has this number is ready, as the words say.
     #[inline]
-    pub(crate) fn said(&self, backend: &Backend, spread: u64) -> Option<Judged>
-        ensures { IfSome result (λ j. JudgedIn R.gives self.now.balancer self.now.number backend.now j.ready) }
+    pub(crate) fn said(&self, backend: &Backend, spread: u64) -> Option<bool>
+        ensures { IfSome result (JudgedIn R.gives self.now.balancer self.now.number backend.now) }
     {
         let flagged = self.flags.said(backend, spread)?;
         let healthy = self.cells.said(flagged.cell)?;
-        Some(judged_of(flagged, healthy))
+        Some(ready_of(flagged, healthy))
     }
 
-    // Notes the cell and the flag of a member, and whether that cell is kept and healthy.
-    pub(crate) fn note(&self, backend: &Backend, flagged: Flagged, healthy: bool)
-        requires flagged { FlaggedIn self.now.balancer self.now.number backend.now flagged.cell flagged.is_enabled }
-        requires healthy { WasHealthy R.gives self.now.balancer.registry flagged.cell healthy }
+    // Notes the cell and the flag of a member.
+    pub(crate) fn note_flag(&self, backend: &Backend, flagged: Flagged)
+        requires { FlaggedIn self.now.balancer self.now.number backend.now flagged.cell flagged.is_enabled }
     {
         self.flags.note(backend, flagged);
-        self.cells.note(flagged.cell, healthy);
+    }
+
+    // Notes whether a cell is kept and healthy.
+    pub(crate) fn note_health(&self, cell: u64, healthy: bool)
+        requires { WasHealthy R.gives self.now.balancer.registry cell healthy }
+    {
+        self.cells.note(cell, healthy);
     }
 
     // The members that have a word.
@@ -130,11 +127,8 @@ impl<S: BackendSelection, D, R: KeyRule + Drop, C> Readiness<S, D, R, C> {
 
 // Whether a member with this cell and this flag is ready, where the cell is this healthy.
 #[inline]
-fn judged_of(flagged: Flagged, healthy: bool) -> Judged
-    ensures { result.ready ≡ (flagged.is_enabled && healthy) }
+fn ready_of(flagged: Flagged, healthy: bool) -> bool
+    ensures { result ≡ (flagged.is_enabled && healthy) }
 {
-    Judged {
-        ready: flagged.is_enabled && healthy,
-        stamp: flagged.stamp,
-    }
+    flagged.is_enabled && healthy
 }

@@ -100,6 +100,13 @@ impl<S: BackendSelection> Shown<S> {
         self.members.contains(backend) && !self.unready.contains(backend)
     }
 
+    // Whether a backend is a member.
+    pub(crate) fn lists(&self, backend: &Backend) -> bool
+        ensures { result ≡ list_any (same_member backend.now) self.now.members }
+    {
+        self.members.contains(backend)
+    }
+
     // The words for the loads of the members.
     #[inline]
     fn load_words(&self) -> Option<&LoadWords> {

@@ -236,8 +236,8 @@ impl<
     /// looked at. It is `None` too where no such slot is there.
     ///
     /// A reader enters the slot for it. Then it leaves, or a lane of the slot keeps it for the selections that follow, which take no lock
-    /// but for a candidate whose flag was set since it was last asked for, and in a group that is cancelled. The worker that publishes
-    /// empties the slot's lanes, so that no lane keeps a retired selector once the selections in it have ended.
+    /// but for a candidate that none asked for yet, and in a group that is cancelled. The worker that publishes empties the slot's lanes,
+    /// so that no lane keeps a retired selector once the selections in it have ended.
     ///
     /// # Errors
     ///

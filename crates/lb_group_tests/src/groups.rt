@@ -64,10 +64,11 @@ enum OfGroups {
     WorkerOfOneLetGo,
     ClockGoesBack,
     CancelledWhileRead,
+    ReadyWhileBehind,
     TicketsOfEach,
 }
 
-const ROWS: [Row; 17] = [
+const ROWS: [Row; 18] = [
     Row::OfHandle(OfHandle::WithoutWorkers),
     Row::OfHandle(OfHandle::WithWorkers),
     Row::OfHandle(OfHandle::StartsButOne),
@@ -84,6 +85,7 @@ const ROWS: [Row; 17] = [
     Row::OfGroups(OfGroups::WorkerOfOneLetGo),
     Row::OfGroups(OfGroups::ClockGoesBack),
     Row::OfGroups(OfGroups::CancelledWhileRead),
+    Row::OfGroups(OfGroups::ReadyWhileBehind),
     Row::OfGroups(OfGroups::TicketsOfEach),
 ];
 
@@ -151,6 +153,7 @@ fn play_groups<
         OfGroups::CancelledWhileRead => {
             staying::cancelled_while_read(rt, alloc, first, registry)
         }
+        OfGroups::ReadyWhileBehind => staying::ready_while_behind(rt, alloc, first, registry),
         OfGroups::TicketsOfEach => tickets::tickets_of_each(rt, alloc, first),
     }
 }

@@ -316,15 +316,13 @@ impl<S: BackendSelection> GroupCore<S> {
         self.view.ready_in(registry, reader.generation(), backend)
     }
 
-    /// Returns the number of the cell that a backend has in the snapshot of the generation that a reader entered, and whether the backend
-    /// is enabled.
+    /// Returns the number of the cell that a backend has in the snapshot of a generation, and whether the backend is enabled.
     ///
     /// `None` where no such snapshot lives, or it doesn't list the backend. It takes no memory.
-    pub fn cell_and_flag(&self, reader: &Reader<S>, backend: &Backend) -> Option<(u64, bool)>
-        ensures { After self.now (λ made e. IfSome result (λ r.
-            HasCellIn (views_of made e) reader.now.generation backend.now r.0 r.1)) }
+    pub fn cell_and_flag(&self, generation: u64, backend: &Backend) -> Option<(u64, bool)>
+        ensures { After self.now (λ made e. IfSome result (λ r. HasCellIn (views_of made e) generation backend.now r.0 r.1)) }
     {
-        self.view.cell_and_flag(reader.generation(), backend)
+        self.view.cell_and_flag(generation, backend)
     }
 
     /// Returns the next ticket of the selector that a reader is in, as a group without a view does: each selector has a counter of its

@@ -12,7 +12,7 @@ HasPlace marks i b = (m : Member) × (slice_get marks i ≡ Some (Some m)) × (s
 module _ (Told : Member → ℕ → Bool → Bool → Type 0)
     (by_identity : (b m : Member) (c : ℕ) (a n : Bool) → same_member b m ≡ true → Told m c a n → Told b c a n) where
   says-same : (b m : Member) (w : ℕ) → same_member b m ≡ true → Says (Told m) w → Says (Told b) w
-  says-same b m w same says = λ a n is. by_identity b m (w / 4294967296) a n same (says a n is)
+  says-same b m w same says = λ a n is. by_identity b m (w / 8) a n same (says a n is)
 
   -- what is said of a backend may be the word at its place
   pub says-at : (marks : List (Option Member)) (i w : ℕ) (b : Member) → HasPlace marks i b → Says (Told b) w → SaysAt Told marks i w
@@ -46,10 +46,10 @@ module _ (Told : Bool → Bool → Type 0) where
   said-once false false false false is told = told
 
 -- the word that says so of this cell alone
-pub says-word : (Told : ℕ → Bool → Bool → Type 0) (w c : ℕ) (a n : Bool) → w % 8 ≡ said_as a n → w / 4294967296 ≡ c → Told c a n
+pub says-word : (Told : ℕ → Bool → Bool → Type 0) (w c : ℕ) (a n : Bool) → w % 8 ≡ said_as a n → w / 8 ≡ c → Told c a n
     → Says Told w
 says-word Told w c a n is cell told =
-    λ b m other. said-once (λ e k. Told (w / 4294967296) e k) a n b m (sym is ∙ other) (subst (λ k. Told k a n) (sym cell) told)
+    λ b m other. said-once (λ e k. Told (w / 8) e k) a n b m (sym is ∙ other) (subst (λ k. Told k a n) (sym cell) told)
 
 -- a word of 0 says nothing, and so do words that aren't there
 nothing-said : (Told : Member → ℕ → Bool → Bool → Type 0) (marks : List (Option Member)) (i w : ℕ) → w ≡ 0 → SaysAt Told marks i w

@@ -1,7 +1,10 @@
 -- Readiness goes by identity, and is known by a backend's cell and flag.
-use Rattle.std.proofs.Common.{◌≡◌, ◌∙◌, ℕ, Bool, true, false, ◌&&◌, List, [], ◌∷◌, Option, Some, None, refl, sym, subst, true≢false}
+use Rattle.std.proofs.Common.{◌≡◌, ◌∙◌, ℕ, Bool, true, false, ◌&&◌, List, [], ◌∷◌, Option, Some, None, ap, refl, sym, subst}
+use Rattle.std.proofs.Common.{true≢false}
 use Rattle.std.specs.Prelude.{◌↔◌, IsTrue}
+use Rattle.std.specs.List.{list_any}
 use Rattle.std.specs.Option.{IsSomeAnd}
+use Rattle.std.proofs.lemmas.Bool.{eq-eqb}
 use Rattle.std.specs.HashMap.Eq.{lookup_congr}
 use Rattle.std.proofs.lemmas.Map.Steps.{list_any_congr}
 use Rattle.lb_select_base.specs.Backends.{Member, same_member}
@@ -9,8 +12,9 @@ use Rattle.lb_select_base.proofs.Turns.{same_equiv}
 use Rattle.lb_health_core.specs.RegistryEvents.{Event, IsCellKept, cell_health}
 use Rattle.lb_health_view.specs.RegistrySide.{HasCell, HasCellIn, IsReady, IsReadyIn}
 use Rattle.lb_health_view.specs.Snapshots.{SnapshotValue, snapshot_at}
-use Rattle.lb_health_view.specs.ViewEvents.{ViewEvent, Shown, Released, Set, Held, flag_after, snapshots_after}
-use Rattle.lb_health_view.proofs.ViewLemmas.{lists-same}
+use Rattle.lb_health_view.specs.ViewEvents.{ViewEvent, Shown, Released, Set, Held, flag_after, generation_after, membership_after}
+use Rattle.lb_health_view.specs.ViewEvents.{snapshots_after}
+use Rattle.lb_health_view.proofs.ViewLemmas.{current_first, first_generation, first_members, lists-same}
 
 some-more : {A : Type 0} (o : Option A) (P Q : A → Type 0) → ((x : A) → P x → Q x) → IsSomeAnd o P → IsSomeAnd o Q
 some-more (Some x) P Q more p = more x p
@@ -79,3 +83,16 @@ module _ (key_of : Member → Member) (views : List ViewEvent) (events : List Ev
           → IsTrue (enabled && healthy) ↔ IsSomeAnd o (IsReadyIn key_of views events b)
       at (Some s) has = ready-one enabled healthy s has up
       at None has = absurd has
+
+-- the current snapshot is the only one of its generation, so a backend that it doesn't list isn't ready in that
+module _ (key_of : Member → Member) (views : List ViewEvent) (events : List Event) (b : Member) where
+  first-unlisted : (ss : List SnapshotValue) (g : ℕ) → first_generation ss ≡ g → list_any (same_member b) (first_members ss) ≡ false
+      → IsSomeAnd (snapshot_at g ss) (IsReadyIn key_of views events b) → ⊥
+  first-unlisted [] g same none ready = ready
+  first-unlisted (s ∷ ss) g same none ready =
+      let is : IsReadyIn key_of views events b s = rw (eq-eqb s.generation g same) at ready in true≢false (sym is.listed ∙ none)
+
+  pub unlisted : list_any (same_member b) (membership_after views) ≡ false → IsReady key_of views events (generation_after views) b → ⊥
+  unlisted none ready =
+      let first = current_first views in
+      first-unlisted (snapshots_after views) (generation_after views) first.1 (ap (list_any (same_member b)) first.0 ∙ none) ready

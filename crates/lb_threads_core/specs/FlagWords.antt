@@ -11,9 +11,9 @@ said_as false true = 6
 said_as true false = 3
 said_as false false = 2
 
--- what a word says is so; its high half is the number of the cell
+-- what a word says is so; an eighth of it is the number of the cell
 abbrev pub Says : (ℕ → Bool → Bool → Type 0) → ℕ → Type 0
-Says Told w = (enabled is_newest : Bool) → w % 8 ≡ said_as enabled is_newest → Told (w / 4294967296) enabled is_newest
+Says Told w = (enabled is_newest : Bool) → w % 8 ≡ said_as enabled is_newest → Told (w / 8) enabled is_newest
 
 -- the word at a place speaks of the backend that has the place, and says nothing where none has it
 abbrev pub SaysAt : (Member → ℕ → Bool → Bool → Type 0) → List (Option Member) → ℕ → ℕ → Type 0

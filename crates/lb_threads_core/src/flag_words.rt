@@ -1,11 +1,10 @@
 //! The cells and the flags of a generation's backends, as words that threads share: one for each backend, which says what cell it has,
-//! whether it is enabled, whether that was found of the newest membership, and as of which changes of its flag. A selection loads the word
-//! of its candidate and that of its cell, and asks under the locks where its flag changed since.
+//! whether it is enabled, and whether that was found of the newest membership. A selection loads the word of its candidate and that of its
+//! cell. Who sets a flag writes its word while the membership is locked, and so does who asks for a backend that has no word yet.
 ghost use Rattle.std.specs.Prelude.{◌≡◌, ◌<◌, ◌%◌, ◌/◌, Bool, IfOk, IfSome, true, ℕ};
 ghost use Rattle.lb_select_base.specs.Backends.{Member, same_member};
 ghost use Rattle.lb_threads_core.specs.FlagWords.{said_as};
 
-use crate::changes::{STAMPS, Stamp};
 use crate::marks::{Marks, marks_of, place_by, place_of};
 use crate::word_rule::WordRule;
 use crate::words::KeyedWords;
@@ -25,9 +24,8 @@ const IS_DISABLED_NOW: u64 = 6;
 
 const IS_ENABLED_NOW: u64 = 7;
 
-// A cell of this number and above isn't noted: the high half of a word has the cell, and the stamp is between it and what the word says. Of
-// a stamp that has no room there the word has another one, which is never of now.
-const CELLS: u64 = 0x1_0000_0000;
+// A cell of this number and above isn't noted: all but the last three bits of a word are the cell's.
+const CELLS: u64 = 0x2000_0000_0000_0000;
 
 /// What is known of a backend whose cell and flag a word says.
 pub trait FlagRule<K> {
@@ -58,13 +56,12 @@ impl<K, I: FlagRule<K>> WordRule<Subject<K>> for SaidBy<I> {
     ghost holds = { λ subject i w. SaysAt (I.told subject.of.value) subject.marks.value.items i w };
 }
 
-/// The cell of a backend, whether the backend is enabled, whether that was found of the newest membership, and as of which changes.
+/// The cell of a backend, whether the backend is enabled, and whether that was found of the newest membership.
 #[derive(Clone, Copy)]
 pub struct Flagged {
     pub cell: u64,
     pub is_enabled: bool,
     pub is_newest: bool,
-    pub stamp: Stamp,
 }
 
 /// Cells and flags as words. Contracts see what the words are of.
@@ -139,7 +136,7 @@ impl<K, I: FlagRule<K>> FlagWords<K, I> {
 // What a word says.
 #[inline]
 fn said_by(word: u64) -> Option<Flagged>
-    ensures { IfSome result (λ f. (word % 8 ≡ said_as f.is_enabled f.is_newest) × (f.cell ≡ word / 4294967296)) }
+    ensures { IfSome result (λ f. (word % 8 ≡ said_as f.is_enabled f.is_newest) × (f.cell ≡ word / 8)) }
 {
     let (is_enabled, is_newest) = match word % 8 {
         IS_ENABLED_NOW => (true, true),
@@ -149,16 +146,15 @@ fn said_by(word: u64) -> Option<Flagged>
         _ => return None,
     };
     Some(Flagged {
-        cell: word / CELLS,
+        cell: word / 8,
         is_enabled,
         is_newest,
-        stamp: Stamp::of_bits(word % CELLS / 8),
     })
 }
 
 // The word that says so, if there is room in one.
 fn word_of(flagged: Flagged) -> Option<u64>
-    ensures { IfSome result (λ w. (w % 8 ≡ said_as flagged.is_enabled flagged.is_newest) × (w / 4294967296 ≡ flagged.cell)) }
+    ensures { IfSome result (λ w. (w % 8 ≡ said_as flagged.is_enabled flagged.is_newest) × (w / 8 ≡ flagged.cell)) }
 {
     if flagged.cell >= CELLS {
         return None;
@@ -169,13 +165,13 @@ fn word_of(flagged: Flagged) -> Option<u64>
         (true, false) => IS_ENABLED,
         (false, false) => IS_DISABLED,
     };
-    Some(put_together(flagged.cell, flagged.stamp.bits() % STAMPS, says))
+    Some(put_together(flagged.cell, says))
 }
 
-// A word of these three parts.
-fn put_together(cell: u64, stamp: u64, says: u64) -> u64
-    requires { (cell < 4294967296) × (stamp < 536870912) × (says < 8) }
-    ensures { (result % 8 ≡ says) × (result / 4294967296 ≡ cell) }
+// A word of these two parts.
+fn put_together(cell: u64, says: u64) -> u64
+    requires { (cell < 0x2000_0000_0000_0000) × (says < 8) }
+    ensures { (result % 8 ≡ says) × (result / 8 ≡ cell) }
 {
-    cell * CELLS + (stamp * 8 + says)
+    cell * 8 + says
 }

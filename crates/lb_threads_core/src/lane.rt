@@ -1,6 +1,6 @@
 //! One lane: a value that threads read in place, with a word that counts them. A thread that renews a lane which is read marks it: no new
 //! reader comes then, and the last one empties it.
-ghost use Rattle.std.specs.Prelude.{◌≡◌, ◌%◌, ◌<◌, IfOk, IfSome};
+ghost use Rattle.std.specs.Prelude.{◌≡◌, ◌%◌, ◌<◌, IfSome};
 ghost use Rattle.counted_slot.specs.Counting.{readers};
 
 use crate::generators::SharedGenerator;
@@ -24,15 +24,6 @@ pub struct Seen<'a, X: Fits + Drop> {
     pub(crate) slot: &'a Counted<Option<X>>,
     pub hand: Claim<'a, Option<X>>,
     ghost reads: { (hand.right ≡ 1) × (slot.now ≡ hand.tag) },
-}
-
-// Why a lane isn't read.
-#[derive(Clone, Copy)]
-pub(crate) enum Unread {
-    // It has no value.
-    Free,
-    // It is marked or taken, or other readers come and go.
-    Busy,
 }
 
 fn state_of(word: u64) -> u64
@@ -64,29 +55,33 @@ impl<X: Fits + Drop> Lane<X> {
         &self.generator
     }
 
-    // Reads the value, where one is there and the lane isn't marked.
+    // Reads the value, where one is there and the lane isn't marked; `None` too where other readers come and go.
     //
     // At first it is taken to be there and unread, as it is mostly. A look before would fetch the word from other processors twice: once
     // to read it, and once to write it.
-    pub(crate) fn read(&self) -> Result<Seen<'_, X>, Unread>
-        ensures { IfOk result (λ s. s.hand.tag ≡ self.now.slot) }
+    pub(crate) fn read(&self) -> Option<Seen<'_, X>>
+        ensures { IfSome result (λ s. s.hand.tag ≡ self.now.slot) }
     {
         let mut word = PRESENT;
         for _ in 0..READS {
-            match state_of(word) {
-                FREE => return Err(Unread::Free),
-                PRESENT if reader_count(word) < MOST_READERS => (),
-                _ => return Err(Unread::Busy),
+            if state_of(word) != PRESENT || reader_count(word) >= MOST_READERS {
+                return None;
             }
             let (found, hand) = self.slot.turn(word, word + ONE_READER);
             if found == word {
                 let slot = &self.slot;
-                return Ok(Seen { slot, hand });
+                return Some(Seen { slot, hand });
             }
             hand.done();
             word = found;
         }
-        Err(Unread::Busy)
+        None
+    }
+
+    // Whether no value is there, and no thread reads or exchanges one.
+    pub(crate) fn is_free(&self) -> bool {
+        let word = self.slot.load();
+        state_of(word) == FREE && reader_count(word) == 0
     }
 
     // Exchanges what is there for this, under the state `next`, where no thread reads it, and returns what was there. A lane that is read

@@ -2,7 +2,7 @@
 ghost use Rattle.std.specs.Prelude.{◌≡◌, All, IfOk, IfSome, vec_len};
 
 use crate::generators::SharedGenerator;
-use crate::lane::{Lane, Seen, Unread};
+use crate::lane::{Lane, Seen};
 use crate::marks::SPREAD;
 use counted_slot::{FREE, Fits, PRESENT};
 use std::alloc::{AllocError, Global};
@@ -59,22 +59,28 @@ impl<X: Fits + Drop> Lanes<X> {
         }
     }
 
-    /// Reads what the hint's lane has, or, where it is busy, one of the next three.
+    /// Reads what the hint's lane has, or else what one of the next three has.
     ///
-    /// `None` where the hint's lane is free, so that its caller fills it, or where all are marked, just taken, or free.
+    /// `None` where all four are free, marked, or just taken.
     pub fn read<'a>(&'a self, hint: u64, key: &X::Tag) -> Option<Seen<'a, X>>
         requires { All (λ lane. lane.slot ≡ key.now) self.now.lanes.items }
         ensures { IfSome result (λ s. s.hand.tag ≡ key.now) }
     {
         for step in 0..TRIES {
             let lane = self.lane(hint.wrapping_add(step), key)?;
-            match lane.read() {
-                Ok(seen) => return Some(seen),
-                Err(Unread::Free) if step == 0 => return None,
-                Err(_) => (),
+            if let Some(seen) = lane.read() {
+                return Some(seen);
             }
         }
         None
+    }
+
+    /// Returns whether the hint's lane has nothing, and no thread reads it.
+    pub fn is_free(&self, hint: u64) -> bool {
+        match self.lanes.get(self.place(hint)) {
+            Some(lane) => lane.is_free(),
+            None => false,
+        }
     }
 
     /// Gives the hint's lane this value, and returns what isn't needed: the value that was there, or this one where the lane is read or

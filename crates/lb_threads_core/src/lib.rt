@@ -7,7 +7,6 @@
 pub mod backends;
 pub mod cell_tables;
 pub mod cell_words;
-pub mod changes;
 pub mod clock;
 pub mod flag_words;
 pub mod gate;

@@ -36,18 +36,12 @@ fn number_of(address: &SocketAddr) -> u64 {
     }
 }
 
-/// Returns a number of a backend's identity, whose high bits few others have: its place and its flag go by it.
+/// Returns a number of a backend's identity, whose high bits few others have: its place goes by it.
 #[inline]
 pub fn spread_of(backend: &Backend) -> u64 {
     let (address, weight) = backend.identity();
     let number = number_of(address).wrapping_add((weight as u64) << 48);
     number.wrapping_mul(SPREAD)
-}
-
-/// Returns the number of the flag of a backend whose identity has this number.
-#[inline]
-pub fn flag_of(spread: u64) -> u64 {
-    spread >> 56
 }
 
 // The first place of a backend whose identity has this number, among so many.

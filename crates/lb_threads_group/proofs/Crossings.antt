@@ -3,7 +3,10 @@ use denote.RattleType.{RattleType}
 use denote.Struct.Declared.{shape}
 use denote.Param.Send.{IsSend, IsSync, sendable, view_send, view_sync, struct_send, struct_sync, recorded_send, recorded_sync}
 use Rattle.std.proofs.Crossing.{crosses}
+use Rattle.std.proofs.MapsCrossing as maps
+use Rattle.std.proofs.MapsCrossingOver as sets
 use Rattle.lb_select_base.specs.declared.walk.BackendSelection.{Ghosts as Selection}
+use Rattle.lb_select_base.proofs.backend.Backend.TheSendSync as backend
 use Rattle.lb_health_core.specs.declared.keys.KeyRule.{Ghosts as Keys}
 use Rattle.lb_balancer_core.proofs.timings.UpdateTimings.TheSendSync as timings
 use Rattle.lb_threads_core.proofs.loads.SharedLoads.TheSendSync as loads
@@ -28,6 +31,7 @@ use Rattle.lb_threads_group.specs.contracts.found.Found as found
 use Rattle.lb_threads_group.specs.contracts.found.Found.TheInside as found_inside
 use Rattle.lb_threads_group.specs.contracts.found.SlotWords as slot_words
 use Rattle.lb_threads_group.specs.contracts.kept.Entry as entry
+use Rattle.lb_threads_group.specs.contracts.newest.Newest as newest
 use Rattle.lb_threads_group.specs.contracts.kept.Site as site
 use Rattle.lb_threads_group.specs.contracts.group.SharedGroup as shared
 use Rattle.lb_threads_group.specs.contracts.group.SharedGroup.TheInside as inside
@@ -105,6 +109,20 @@ module _ (T R H C W : RattleType) (g : Selection T.Denot C.Denot W.Denot) (k : K
   entry_sync : IsSync (entry.the_row T R H C W g k)
   entry_sync = search (sendable, crosses, found_send, found_sync, reader_sync) depth 30
 
+  newest_send : IsSend (newest.the_row T R H C W g k)
+  newest_send = recorded_send (newest.the_field T R H C W g k).row _ _ (newest.the_type T R H C W g k).to_one
+      (struct_send (shape (newest.the_type T R H C W g k)) (
+        search (sendable, crosses, sets.crosses, maps.crosses, backend.the_send, backend.the_sync) depth 30,
+        (search (sendable, crosses, found_send, found_sync) depth 20, tt),
+      ))
+
+  newest_sync : IsSync (newest.the_row T R H C W g k)
+  newest_sync = recorded_sync (newest.the_field T R H C W g k).row _ _ (newest.the_type T R H C W g k).to_one
+      (struct_sync (shape (newest.the_type T R H C W g k)) (
+        search (sendable, crosses, sets.crosses, maps.crosses, backend.the_send, backend.the_sync) depth 30,
+        (search (sendable, crosses, found_send, found_sync) depth 20, tt),
+      ))
+
   inside_send : IsSend (inside.the_row T R H C W g k)
   inside_send = recorded_send (inside.the_field T R H C W g k).row _ _ (inside.the_type T R H C W g k).to_one
       (struct_send (shape (inside.the_type T R H C W g k)) (
@@ -134,8 +152,11 @@ module _ (T R H C W : RattleType) (g : Selection T.Denot C.Denot W.Denot) (k : K
                               (
                                 search (sendable, crosses, lock.the_send, lock.the_field_send, slot_words_send, slot_words_sync) depth 20,
                                 (
-                                  search (sendable, crosses, generator.the_send, generator.the_sync) depth 20,
-                                  (search (sendable, crosses, numbered.the_field_send) depth 30, tt),
+                                  search (sendable, crosses, lanes.the_field_send, newest_send, newest_sync) depth 20,
+                                  (
+                                    search (sendable, crosses, generator.the_send, generator.the_sync) depth 20,
+                                    (search (sendable, crosses, numbered.the_field_send) depth 30, tt),
+                                  ),
                                 ),
                               ),
                             ),
@@ -180,8 +201,11 @@ module _ (T R H C W : RattleType) (g : Selection T.Denot C.Denot W.Denot) (k : K
                               (
                                 search (sendable, crosses, lock.the_sync, lock.the_field_sync, slot_words_send, slot_words_sync) depth 20,
                                 (
-                                  search (sendable, crosses, generator.the_send, generator.the_sync) depth 20,
-                                  (search (sendable, crosses, numbered.the_field_sync) depth 30, tt),
+                                  search (sendable, crosses, lanes.the_field_sync, newest_send, newest_sync) depth 20,
+                                  (
+                                    search (sendable, crosses, generator.the_send, generator.the_sync) depth 20,
+                                    (search (sendable, crosses, numbered.the_field_sync) depth 30, tt),
+                                  ),
                                 ),
                               ),
                             ),

@@ -4,3 +4,4 @@ mod Findings
 pub mod NumberLemmas
 pub mod Releases
 pub mod Sites
+mod Unlisted

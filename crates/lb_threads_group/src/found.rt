@@ -1,26 +1,30 @@
 //! Which backends of a generation are ready, as words that the lanes of a slot share: one has a backend's cell and flag, and the registry
-//! has one for the cell. A selection loads both, and asks group and registry where a word is lacking, or the flag changed since.
+//! has one for the cell. A selection loads both, and asks group and registry where a word is lacking. Who sets a flag writes its words.
 ghost use Rattle.std.specs.Prelude.{◌≡◌, ◌&&◌, IfOk, IfSome, None};
 ghost use Rattle.std.specs.Arc.{arc_value};
-ghost use Rattle.lb_threads_core.specs.CellWords.{WasHealthy};
-ghost use Rattle.lb_threads_group.specs.Found.{FlaggedAt, FoundAt, ReadyAt};
-ghost use Rattle.lb_threads_group.specs.Group.{ReadyUnder};
-ghost use Rattle.lb_threads_group.specs.Kept.{IsEntry, IsFoundOf};
+ghost use Rattle.lb_rebuild_core.specs.GroupHistory.{members_now};
+ghost use Rattle.lb_rebuild_core.specs.GroupStates.{After};
+ghost use Rattle.lb_threads_core.specs.Registry.{IsRegistryOf};
+ghost use Rattle.lb_threads_group.specs.Found.{FoundAt, ReadyAt, WereNewest};
+ghost use Rattle.lb_threads_group.specs.Group.{IsState, NewestReadyUnder, ReadyUnder};
+ghost use Rattle.lb_threads_group.specs.Kept.{IsFoundOf};
 ghost use Rattle.lb_threads_group.specs.Shared.{SharedValue};
 
 use crate::group::SharedGroup;
-use crate::kept::{Entry, Site};
+use crate::kept::Site;
 use lb_health_core::health_check::HealthCheck;
 use lb_health_core::keys::KeyRule;
+use lb_health_core::registry::Registry;
+use lb_rebuild::watched::Watched;
+use lb_rebuild_core::group::GroupCore;
 use lb_rebuild_core::retired::Reader;
 use lb_select_base::backend::Backend;
 use lb_select_base::walk::BackendSelection;
 use lb_threads_core::cell_words::CellWords;
-use lb_threads_core::changes::Stamp;
 use lb_threads_core::flag_words::{FlagRule, FlagWords, Flagged};
 use lb_threads_core::loads::LoadWords;
 use lb_threads_core::lock::KeyedLock;
-use lb_threads_core::marks::{flag_of, spread_of};
+use lb_threads_core::marks::spread_of;
 use lb_threads_core::registry::{HealthRegistry, cell_words_of, put_registry, take_registry};
 use lb_threads_core::rule::LockRule;
 use std::alloc::{AllocError, Global};
@@ -92,7 +96,7 @@ impl<S: BackendSelection, R: KeyRule + Drop, C> Model for Found<S, R, C> {
     ghost invariant = { λ f. (f.flags.generation ≡ f.generation) × (arc_value f.cells ≡ f.flags.site.value.registry) };
 }
 
-/// The words of a slot: of the generation that it serves, and of the one that is built for it.
+/// The words of a slot: of the generation that it serves, and of the one that is built for it. Of the newest membership it is the latter.
 #[derive(Drop)]
 pub struct SlotWords<S: BackendSelection, R: KeyRule + Drop, C> {
     served: Option<Arc<Found<S, R, C>>>,
@@ -135,7 +139,7 @@ impl<S: BackendSelection, R: KeyRule + Drop, C> SlotWords<S, R, C> {
     }
 
     // Takes words of the generation that is built now, and returns what isn't needed then.
-    fn expect(
+    pub(crate) fn expect(
         &mut self,
         found: Arc<Found<S, R, C>>,
         served: Option<u64>,
@@ -154,12 +158,12 @@ impl<S: BackendSelection, R: KeyRule + Drop, C> SlotWords<S, R, C> {
 }
 
 impl<S: BackendSelection, R: KeyRule + Drop, C> Found<S, R, C> {
-    // Words for readers of a generation with these backends and loads, which say nothing yet of what is ready.
+    // Words for readers of a generation with these members and loads, which say nothing yet of what is ready.
     fn new(
         alloc: Global,
         site: &Site<S, R, C>,
         generation: u64,
-        backends: &BTreeSet<Backend>,
+        members: &BTreeSet<Backend>,
         cells: Arc<CellWords<R>>,
         loads: Option<Arc<LoadWords>>,
     ) -> Result<Found<S, R, C>, AllocError>
@@ -172,7 +176,7 @@ impl<S: BackendSelection, R: KeyRule + Drop, C> Found<S, R, C> {
         };
         Ok(Found {
             generation,
-            flags: FlagWords::new(alloc, backends, &of)?,
+            flags: FlagWords::new(alloc, members, &of)?,
             cells,
             loads,
             tickets: Tickets {
@@ -205,24 +209,89 @@ impl<S: BackendSelection, R: KeyRule + Drop, C> Found<S, R, C> {
         self.generation
     }
 
-    // What the words say of a backend whose identity has this number, and as of which changes of its flag.
+    // What the words say of a backend whose identity has this number.
     #[inline]
-    fn said(&self, backend: &Backend, spread: u64) -> Option<(Finding, Stamp)>
-        ensures { IfSome result (λ r.
-            FoundAt R.gives self.now.site self.now.generation backend.now r.0.ready r.0.is_newest) }
+    fn said(&self, backend: &Backend, spread: u64) -> Option<Finding>
+        ensures { IfSome result (λ f. FoundAt R.gives self.now.site self.now.generation backend.now f.ready f.is_newest) }
     {
         let flagged = self.flags.said(backend, spread)?;
         let healthy = self.cells.said(flagged.cell)?;
-        Some((finding_of(flagged, healthy), flagged.stamp))
+        Some(finding_of(flagged, healthy))
     }
 
-    // Has the words say which cell a backend has, whether it is enabled, and whether the cell is kept and healthy.
-    fn note(&self, backend: &Backend, flagged: Flagged, healthy: bool)
-        requires flagged { FlaggedAt self.now.site self.now.generation backend.now flagged.cell flagged.is_enabled flagged.is_newest }
-        requires healthy { WasHealthy R.gives self.now.site.registry flagged.cell healthy }
+    // Has the word of a backend say which cell it has, and whether it is enabled, as the group has it now. Returns the cell. The caller has
+    // the group's lock, so that a later flag is noted later.
+    fn note_flag(&self, group: &GroupCore<S>, backend: &Backend) -> Option<u64>
+        requires { IsState self.now.site.core group.now }
     {
+        let (cell, is_enabled) = group.cell_and_flag(self.generation, backend)?;
+        let is_newest = group.newest() == self.generation;
+        let flagged = Flagged {
+            cell,
+            is_enabled,
+            is_newest,
+        };
         self.flags.note(backend, flagged);
-        self.cells.note(flagged.cell, healthy);
+        Some(cell)
+    }
+
+    // Has each word say what the group has now.
+    fn note_flags(&self, group: &GroupCore<S>)
+        requires { IsState self.now.site.core group.now }
+    {
+        for mark in self.flags.marks() {
+            if let Some(backend) = mark {
+                self.note_flag(group, backend);
+            }
+        }
+    }
+
+    // Has the words say what group and registry have of a backend. The caller has both locks.
+    pub(crate) fn note(&self, group: &GroupCore<S>, registry: &Registry<R>, backend: &Backend)
+        requires group { IsState self.now.site.core group.now }
+        requires registry { IsRegistryOf R.gives self.now.site.registry registry.now }
+    {
+        if let Some(cell) = self.note_flag(group, backend) {
+            self.cells.note(cell, registry.cell_ready(cell));
+        }
+    }
+
+    // Whether a backend whose identity has this number is ready in the newest membership, where the words say it of that one.
+    pub(crate) fn newest_ready(&self, backend: &Backend, spread: u64) -> Option<bool>
+        ensures { IfSome result (NewestReadyUnder R.gives self.now.site backend.now) }
+    {
+        match self.said(backend, spread) {
+            Some(finding) if finding.is_newest => Some(finding.ready),
+            Some(_) | None => None,
+        }
+    }
+
+    // The backend of each place that has one.
+    pub(crate) fn marks(&self) -> &[Option<Backend>] {
+        self.flags.marks()
+    }
+}
+
+// Has the words say of a backend what the group has now, or of each one for `None`.
+fn note_in<S: BackendSelection, R: KeyRule + Drop, C>(
+    found: &Option<Arc<Found<S, R, C>>>,
+    site: &Site<S, R, C>,
+    group: &GroupCore<S>,
+    backend: Option<&Backend>,
+)
+    requires found { IsFoundOf site.now found.now }
+    requires state { IsState site.now.core group.now }
+{
+    // For the prover alone: the `requires` speak of it.
+    let _ = site;
+    let Some(found) = found else {
+        return;
+    };
+    match backend {
+        Some(backend) => {
+            (**found).note_flag(group, backend);
+        }
+        None => (**found).note_flags(group),
     }
 }
 
@@ -247,25 +316,23 @@ impl<S: BackendSelection, R: KeyRule + Drop, C> SharedGroup<S, R, C> {
 }
 
 impl<S: BackendSelection, R: KeyRule + Drop, C: HealthCheck + Drop> SharedGroup<S, R, C> {
-    // Whether the flag that was found of a backend is the one of now, and its cell is kept. Of a group that is cancelled or dropped that
-    // isn't known, since others' calls may then remove its cells.
-    #[inline]
-    fn is_of_now(&self, spread: u64, stamp: Stamp) -> bool {
-        stamp.is_of_now(&self.marks.flags, flag_of(spread))
+    // Has the words of each slot, and those of the newest membership, say whether a backend is enabled, or each one for `None`. The caller
+    // has the group's lock.
+    pub(crate) fn note_flags<W: Wait>(&self, rt: &W, group: &Watched<S>, backend: Option<&Backend>)
+        requires { IsState self.now.core group.now.core }
+    {
+        for slot in 0..self.words.len() {
+            if let Some(lock) = self.words_lock(slot) {
+                let held = lock.take(rt);
+                note_in(&held.value.served, &self.site, group.core(), backend);
+                note_in(&held.value.next, &self.site, group.core(), backend);
+                lock.put(held);
+            }
+        }
     }
 
-    // Notes that this backend's flag may have changed.
-    pub(crate) fn note_flag(&self, backend: &Backend) {
-        self.marks.flags.note(flag_of(spread_of(backend)));
-    }
-
-    // Notes that each flag may have changed.
-    pub(crate) fn note_flags(&self) {
-        self.marks.flags.note_all();
-    }
-
-    // The lock of a slot's words.
-    fn words_lock(&self, slot: usize) -> Option<&WordsLock<S, R, C>>
+    // The lock of a slot's words; after the slots it is that of the newest membership.
+    pub(crate) fn words_lock(&self, slot: usize) -> Option<&WordsLock<S, R, C>>
         ensures { IfSome result (λ l. l.now.table.shared.key ≡ self.now) }
     {
         let _site = &self.site;
@@ -291,14 +358,14 @@ impl<S: BackendSelection, R: KeyRule + Drop, C: HealthCheck + Drop> SharedGroup<
     // Has words for the readers of a generation that is built for a slot, if it is the newest one. It is for the thread that builds:
     // requests take what is there. Where memory is refused, they ask for each candidate.
     pub(crate) fn expect<W: Wait>(&self, rt: &W, slot: usize, generation: u64) {
-        let Some(backends) = self.backends_of(rt, generation) else {
+        let Some(members) = self.members_of(rt, generation) else {
             return;
         };
         let Some(lock) = self.words_lock(slot) else {
             return;
         };
-        let loads = self.loads.words(rt, self.alloc, generation, &backends);
-        let Some(found) = self.new_found(rt, generation, &backends, loads) else {
+        let loads = self.loads.words(rt, self.alloc, generation, &members);
+        let Some(found) = self.new_found(rt, generation, &members, loads) else {
             return;
         };
         let _board = &self.board;
@@ -307,11 +374,11 @@ impl<S: BackendSelection, R: KeyRule + Drop, C: HealthCheck + Drop> SharedGroup<
         let mut held = lock.take(rt);
         let unneeded = held.value.expect(found, served);
         lock.put(held);
-        drop((backends, unneeded));
+        drop((members, unneeded));
     }
 
-    // Judges each backend that a slot serves, where its word isn't of now. It is for the thread that publishes or checks, so that
-    // requests seldom have to ask.
+    // Judges each backend that a slot serves, where it has no word yet. It is for the thread that publishes or checks, so that requests
+    // seldom have to ask.
     pub(crate) fn judge_all<W: Wait>(&self, rt: &W, slot: usize) {
         let Ok(entry) = self.enter_lane(rt, slot) else {
             return;
@@ -322,28 +389,6 @@ impl<S: BackendSelection, R: KeyRule + Drop, C: HealthCheck + Drop> SharedGroup<
         self.leave_entry(rt, entry);
     }
 
-    // Judges a backend for each slot. It is for the thread that sets a flag, so that requests seldom have to ask.
-    pub(crate) fn judge_one<W: Wait>(&self, rt: &W, backend: &Backend) {
-        for slot in 0..self.slot_count() {
-            if let Ok(entry) = self.enter_lane(rt, slot) {
-                self.judge_for(rt, &entry, backend);
-                self.leave_entry(rt, entry);
-            }
-        }
-    }
-
-    // Judges a backend by the words of an entry.
-    fn judge_for<W: Wait>(&self, rt: &W, entry: &Entry<S, R, C>, backend: &Backend)
-        requires { IsEntry self.now entry.now.slot entry.now.reader entry.now.found }
-    {
-        let Some(found) = entry.words() else {
-            return;
-        };
-        if found.generation() == entry.reader.generation() {
-            self.judge(rt, found, &entry.reader, backend);
-        }
-    }
-
     // Judges each backend that has a word.
     fn judge_each<W: Wait>(&self, rt: &W, found: &Found<S, R, C>, reader: &Reader<S>)
         requires found { found.now.site ≡ self.now }
@@ -352,19 +397,19 @@ impl<S: BackendSelection, R: KeyRule + Drop, C: HealthCheck + Drop> SharedGroup<
         if found.generation() != reader.generation() {
             return;
         }
-        for mark in found.flags.marks() {
+        for mark in found.marks() {
             if let Some(backend) = mark {
                 self.judge(rt, found, reader, backend);
             }
         }
     }
 
-    // Words for readers of a generation.
-    fn new_found<W: Wait>(
+    // Words for readers of a generation with these members.
+    pub(crate) fn new_found<W: Wait>(
         &self,
         rt: &W,
         generation: u64,
-        backends: &BTreeSet<Backend>,
+        members: &BTreeSet<Backend>,
         loads: Option<Arc<LoadWords>>,
     ) -> Option<Arc<Found<S, R, C>>>
         ensures { IsFoundOf self.now result }
@@ -372,27 +417,28 @@ impl<S: BackendSelection, R: KeyRule + Drop, C: HealthCheck + Drop> SharedGroup<
         let alloc = self.alloc;
         let site = &self.site;
         let registries: &HealthRegistry<R, C> = &*self.registry;
-        let cells = cell_words_of(registries, rt, alloc, backends.len()).ok()?;
-        let found = Found::new(alloc, site, generation, backends, cells, loads).ok()?;
+        let cells = cell_words_of(registries, rt, alloc, members.len()).ok()?;
+        let found = Found::new(alloc, site, generation, members, cells, loads).ok()?;
         Arc::new(alloc, found).ok()
     }
 
-    // The newest backends, where they are those of this generation.
-    fn backends_of<W: Wait>(&self, rt: &W, generation: u64) -> Option<Arc<BTreeSet<Backend>>> {
+    // The newest members, where they are those of this generation.
+    pub(crate) fn members_of<W: Wait>(
+        &self,
+        rt: &W,
+        generation: u64,
+    ) -> Option<Arc<BTreeSet<Backend>>>
+        ensures { IfSome result (λ m. WereNewest self.now (arc_value m).keys) }
+    {
         let _gate = &self.gate;
         let held = self.lock.take(rt);
-        let group = held.value.core();
-        let backends = if group.newest() == generation {
-            group.get_backend().ok()
-        } else {
-            None
-        };
+        held.value.founded();
+        let members = newest_members(held.value.core(), generation);
         self.lock.put(held);
-        backends
+        members
     }
 
-    // Whether a backend is ready for a reader of the words' generation: as its word says, and where that isn't of now, as group and
-    // registry say.
+    // Whether a backend is ready for a reader of the words' generation: as its word says, and where none does, as group and registry say.
     pub(crate) fn judge<W: Wait>(
         &self,
         rt: &W,
@@ -422,7 +468,7 @@ impl<S: BackendSelection, R: KeyRule + Drop, C: HealthCheck + Drop> SharedGroup<
     {
         let spread = spread_of(backend);
         match found.said(backend, spread) {
-            Some((finding, stamp)) if self.is_of_now(spread, stamp) => finding,
+            Some(finding) if self.is_open() => finding,
             _ => self.ask(rt, found, reader, backend),
         }
     }
@@ -445,7 +491,7 @@ impl<S: BackendSelection, R: KeyRule + Drop, C: HealthCheck + Drop> SharedGroup<
     }
 
     // Whether group and registry say that a backend is ready for a reader, and whether that is in the newest generation. The words say it
-    // from now on. A flag that another thread changed but hasn't counted yet makes its word old, no more.
+    // from now on.
     #[cold]
     #[inline(never)]
     fn ask<W: Wait>(
@@ -461,25 +507,30 @@ impl<S: BackendSelection, R: KeyRule + Drop, C: HealthCheck + Drop> SharedGroup<
     {
         let registries: &HealthRegistry<R, C> = &*self.registry;
         let _gate = &self.gate;
-        let stamp = Stamp::new(&self.marks.flags, flag_of(spread_of(backend)));
         let held = self.lock.take(rt);
         held.value.founded();
         let cells = take_registry(registries, rt);
         let group = held.value.core();
         let ready = group.ready(reader, &cells.value, backend);
         let is_newest = group.newest() == reader.generation();
-        if let Some((cell, is_enabled)) = group.cell_and_flag(reader, backend) {
-            let flagged = Flagged {
-                cell,
-                is_enabled,
-                is_newest,
-                stamp,
-            };
-            found.note(backend, flagged, cells.value.cell_ready(cell));
-        }
+        found.note(group, &cells.value, backend);
         put_registry(registries, cells);
         self.lock.put(held);
         Finding { ready, is_newest }
+    }
+}
+
+// The members of a group's newest generation, where that is this one.
+fn newest_members<S: BackendSelection>(
+    group: &GroupCore<S>,
+    generation: u64,
+) -> Option<Arc<BTreeSet<Backend>>>
+    ensures { IfSome result (λ m. After group.now (λ made e. (arc_value m).keys ≡ members_now e)) }
+{
+    if group.newest() == generation {
+        group.get_backend().ok()
+    } else {
+        None
     }
 }
 

@@ -8,6 +8,7 @@ ghost use Rattle.lb_threads_group.specs.Shared.{IsSame};
 
 use crate::found::{SlotWords, WordsLock};
 use crate::kept::{Site, SlotLanes};
+use crate::newest::Newest;
 use crate::noting::Noting;
 use crate::numbers::{GroupNumbers, numbers_of};
 use crate::port::LockedPort;
@@ -23,7 +24,6 @@ use lb_select_base::backend::Backend;
 use lb_select_base::moments::MomentSource;
 use lb_select_base::refusal::Refusal;
 use lb_select_base::walk::BackendSelection;
-use lb_threads_core::changes::ChangeCounts;
 use lb_threads_core::gate::SelectorRebuildGate;
 use lb_threads_core::generators::SharedGenerator;
 use lb_threads_core::keyed::NoRule;
@@ -44,6 +44,9 @@ use std::sync::{Arc, Mutex, Wait};
 
 // The number of lanes of a slot, a power of two: many more than the threads that select at once, so that few meet in one.
 const LANES: usize = 128;
+
+// The number of lanes of the newest membership's words.
+const NEWEST_LANES: usize = 16;
 
 /// The group under the lock is the one that the lock was made with, on the same board: its identity, its gate, its registry and its
 /// configurations stay.
@@ -69,10 +72,8 @@ struct SlotCounters {
 pub(crate) struct Marks {
     // Whether only workers use the group now.
     let_go: AtomicBool,
-    // Whether the lanes are used no more.
-    pub(crate) is_closed: AtomicBool,
-    // Counts what may have changed the flag of a backend.
-    pub(crate) flags: ChangeCounts,
+    // Whether lanes and words are used no more.
+    is_closed: AtomicBool,
     // How many threads asked for lanes of their own, wrapping.
     pub(crate) readers: AtomicU64,
 }
@@ -95,8 +96,9 @@ pub struct SharedGroup<S: BackendSelection, R: KeyRule + Drop = Rule<NoRule>, C 
     pub(crate) lanes: Vec<SlotLanes<S, R, C>>,
     // For the words of a generation.
     pub(crate) alloc: Global,
-    // The words of each slot.
+    // The words of each slot, and after them those of the newest membership, which have lanes of their own.
     pub(crate) words: Vec<WordsLock<S, R, C>>,
+    pub(crate) newest: Lanes<Newest<S, R, C>>,
     // Seeded the random words of the lanes.
     generator: SharedGenerator,
     // What readings load.
@@ -119,6 +121,7 @@ impl<S: BackendSelection, R: KeyRule + Drop, C: Drop> Drop for SharedGroup<S, R,
             lanes: _,
             alloc: _,
             words: _,
+            newest: _,
             generator: _,
             numbers: _,
         } = self;
@@ -149,7 +152,8 @@ impl<S: BackendSelection, R: KeyRule + Drop, C> Model for SharedGroup<S, R, C> {
         })
         × All (λ l. All (λ lane. lane.slot ≡ g.site) l.lanes.items) g.lanes.items
         × All (λ f. f.table.shared.key ≡ g.site) g.words.items
-        × (g.numbers.words.table.shared.key ≡ g.lock.table.shared.key) };
+        × (g.numbers.words.table.shared.key ≡ g.lock.table.shared.key)
+        × All (λ lane. lane.slot ≡ g.site) g.newest.lanes.items };
 }
 
 impl<S: BackendSelection, R: KeyRule + Drop, C: HealthCheck + Drop> SharedGroup<S, R, C> {
@@ -180,9 +184,9 @@ impl<S: BackendSelection, R: KeyRule + Drop, C: HealthCheck + Drop> SharedGroup<
         let mut seeds = generator;
         let generator = SharedGenerator::new(seeds.next_u64());
         let lanes = lanes_of(alloc, board.word_count() - 1, &site, &generator)?;
-        let words = words_of(alloc, board.word_count() - 1, &site)?;
+        let words = words_of(alloc, board.word_count(), &site)?;
+        let newest = Lanes::new(alloc, NEWEST_LANES, &site, &generator)?;
         let numbers = numbers_of(alloc, board.word_count() - 1, &key)?;
-        let flags = ChangeCounts::new(alloc)?;
         let lock = KeyedLock::new(alloc, watched, &key)?;
         Ok(SharedGroup {
             lock,
@@ -196,13 +200,13 @@ impl<S: BackendSelection, R: KeyRule + Drop, C: HealthCheck + Drop> SharedGroup<
             marks: Marks {
                 let_go: AtomicBool::new(false),
                 is_closed: AtomicBool::new(false),
-                flags,
                 readers: AtomicU64::new(0),
             },
             site,
             lanes,
             alloc,
             words,
+            newest,
             generator,
             numbers,
         })
@@ -235,7 +239,13 @@ impl<S: BackendSelection, R: KeyRule + Drop, C: HealthCheck + Drop> SharedGroup<
     // Has no selection go by lanes and words any more.
     fn close(&self) {
         self.marks.is_closed.store(true, SeqCst);
-        self.marks.flags.close();
+    }
+
+    // Whether selections go by lanes and words. In a group that is cancelled or dropped they don't, since others' calls may then remove
+    // its cells.
+    #[inline]
+    pub(crate) fn is_open(&self) -> bool {
+        !self.marks.is_closed.load(SeqCst)
     }
 
     /// Returns whether `let_go` was called.
@@ -356,8 +366,9 @@ impl<S: BackendSelection, R: KeyRule + Drop, C: HealthCheck + Drop> SharedGroup<
             last: 0,
         };
         let told = self.update_noting(rt, alloc, discovery, &mut noting);
-        if told.is_ok() {
+        if let Ok(generation) = told {
             *self.timing.lock(rt) = Some(noting.timings());
+            self.show_newest(rt, generation);
         }
         drop(turn);
         told
@@ -450,7 +461,7 @@ fn lanes_of<S: BackendSelection, R: KeyRule + Drop, C>(
     Ok(lanes)
 }
 
-// The locks of the words of so many slots, which have none yet.
+// Locks of words for so many slots, which have none yet.
 fn words_of<S: BackendSelection, R: KeyRule + Drop, C>(
     alloc: Global,
     slots: usize,

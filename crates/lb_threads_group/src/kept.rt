@@ -22,7 +22,6 @@ use lb_threads_core::lanes::Lanes;
 use lb_threads_core::registry::HealthRegistry;
 use std::marker::Model;
 use std::snapshot::Snapshot;
-use std::sync::atomic::Ordering::SeqCst;
 use std::sync::{Arc, Wait};
 
 /// Which group and which registry the readers of lanes are of. It has no bytes.
@@ -122,7 +121,7 @@ impl<S: BackendSelection, R: KeyRule + Drop, C: HealthCheck + Drop> SharedGroup<
         let _board = &self.board;
         let mut pass = self.board.pass();
         self.board.selector_generation_as(slot, &mut pass) == Some(entry.reader.generation())
-            && !self.marks.is_closed.load(SeqCst)
+            && self.is_open()
     }
 
     // Reads what the hint's lane of a slot has, if it is of what the slot serves now.
@@ -208,7 +207,7 @@ impl<S: BackendSelection, R: KeyRule + Drop, C: HealthCheck + Drop> SharedGroup<
         }
         let mut pass = self.board.pass();
         if self.board.selector_generation_as(slot, &mut pass) != Some(generation)
-            || self.marks.is_closed.load(SeqCst)
+            || !self.is_open()
         {
             self.clear_lane(rt, lanes, hint);
         }
@@ -224,17 +223,26 @@ impl<S: BackendSelection, R: KeyRule + Drop, C: HealthCheck + Drop> SharedGroup<
     }
 
     // Gives each lane of a slot a reader of what the slot serves now. It is for the thread that publishes, so that requests seldom have to
-    // enter. A lane that is read is emptied by its last reader.
+    // enter. A lane that is read is emptied by its last reader, and gets its reader after all others.
     pub(crate) fn fill_lanes<W: Wait>(&self, rt: &W, slot: usize) {
         let Some(lanes) = self.lanes_of(slot) else {
             return;
         };
         for lane in 0..lanes.count() {
-            let hint = lane as u64;
-            self.clear_lane(rt, lanes, hint);
-            if let Ok(entry) = self.enter_lane(rt, slot) {
-                self.keep(rt, hint, entry);
+            self.clear_lane(rt, lanes, lane as u64);
+            self.fill_lane(rt, slot, lane as u64);
+        }
+        for lane in 0..lanes.count() {
+            if lanes.is_free(lane as u64) {
+                self.fill_lane(rt, slot, lane as u64);
             }
+        }
+    }
+
+    // Gives a lane of a slot a reader of what the slot serves now.
+    fn fill_lane<W: Wait>(&self, rt: &W, slot: usize, lane: u64) {
+        if let Ok(entry) = self.enter_lane(rt, slot) {
+            self.keep(rt, lane, entry);
         }
     }
 

@@ -6,6 +6,7 @@ mod backends;
 pub mod found;
 pub mod group;
 pub mod kept;
+pub mod newest;
 mod noting;
 pub mod numbers;
 pub mod passes;

@@ -70,14 +70,6 @@ impl<S: BackendSelection, R: KeyRule + Drop, C> SharedGroup<S, R, C> {
         self.numbers.get(place)
     }
 
-    // Whether a slot was noted to serve the newest membership, of which there is one.
-    pub(crate) fn serves_newest(&self, slot: usize) -> bool {
-        match (self.noted_served(slot), self.noted_newest()) {
-            (Some(served), Some(newest)) => served == newest && newest > 0,
-            _ => false,
-        }
-    }
-
     // How many memberships of a slot were coalesced, if it was noted.
     fn noted_coalesced(&self, slot: usize) -> Option<u64>
         ensures { IfSome result (λ n. SawOfSlot coalesced self.now.core slot (Some n)) }

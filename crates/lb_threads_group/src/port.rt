@@ -94,10 +94,11 @@ impl<
             .schedule(alloc, &mut cells.value, discovered, settings, now);
         put_registry(registries, cells);
         group.note_all(&held.value);
-        group.lock.put(held);
         if has_settings {
-            group.note_flags();
+            held.value.founded();
+            group.note_flags(self.rt, &held.value, None);
         }
+        group.lock.put(held);
         group.wake_if(brings_orders(&told));
         told
     }

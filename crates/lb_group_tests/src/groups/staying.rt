@@ -124,6 +124,49 @@ pub fn cancelled_while_read<
     assert_eq!(rt; told, [true; 9]);
 }
 
+// Whether two backends are ready in the newest membership, asked by a thread that holds the registry.
+fn ready_as_the_holder<S: BackendSelection, R: KeyRule + Drop, C: HealthCheck + Drop, W: Wait>(
+    rt: &W,
+    group: &SharedGroup<S, R, C>,
+    registry: &HealthRegistry<R, C>,
+    first: &Backend,
+    second: &Backend,
+) -> [bool; 2] {
+    let held = take_registry(registry, rt);
+    let ready = [group.ready(rt, first), group.ready(rt, second)];
+    put_registry(registry, held);
+    ready
+}
+
+/// Readiness in the newest membership takes no lock while no slot serves that yet: of its member, also once its flag was set or its cell
+/// flipped, and of a backend that it doesn't list. So it goes on while this very thread holds the registry.
+pub fn ready_while_behind<
+    S: BackendSelection,
+    R: KeyRule + Drop,
+    C: HealthCheck + Drop,
+    W: Wait + Abort,
+>(rt: &W, alloc: Global, group: &SharedGroup<S, R, C>, registry: &HealthRegistry<R, C>) {
+    update(rt, alloc, group, 1);
+    let members = group.get_backend(rt).expect(rt, "refused");
+    let member = members.first().expect(rt, "none is listed");
+    let other = Backend::new(alloc, "9.9.9.9:80").expect(rt, "refused");
+    let listed = ready_as_the_holder(rt, group, registry, member, &other);
+    group.set_enable(rt, member, false);
+    let disabled = ready_as_the_holder(rt, group, registry, member, &other);
+    group.set_enable(rt, member, true);
+    let enabled = ready_as_the_holder(rt, group, registry, member, &other);
+    let targets = registry.targets(rt, alloc).expect(rt, "refused");
+    let cell = targets.get(0).map(|target| target.cell).unwrap_or(0);
+    let down = registry.observe(rt, cell, false, 1);
+    let flipped = ready_as_the_holder(rt, group, registry, member, &other);
+    let up = registry.observe(rt, cell, true, 1);
+    assert_eq!(rt; [down, up], [Ok(true), Ok(true)]);
+    assert_eq!(rt;
+        [listed, disabled, enabled, flipped],
+        [[true, false], [false, false], [true, false], [false, false]]
+    );
+}
+
 // How many selections a thread makes at least while another one holds the registry for a second. A machine that is slow and busy makes
 // some ten thousand.
 const SELECTIONS: u64 = 1000;

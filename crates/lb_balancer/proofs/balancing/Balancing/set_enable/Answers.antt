@@ -3,6 +3,11 @@ use Rattle.std.proofs.Common.{◌∙◌, sym}
 use Rattle.lb_balancer.proofs.Served.{flagged, known}
 use Rattle.lb_balancer.proofs.balancing.Balancing.set_enable.Goals as goal
 
+pub note_flags-requires : goal.note_flags-requires
+note_flags-requires g c =
+    flagged c.args.self.now (known (c.self.invariant.0 ∙ c.self.view_is) c.take-held.ensures.fact) c.set_enable.ensures.config
+    c.set_enable.ensures.id c.args.backend.now c.args.enabled c.set_enable.ensures.view
+
 pub put-requires-clause-fact : goal.put-requires-clause-fact
 put-requires-clause-fact g c =
     let is = c.self.invariant.0 ∙ c.self.view_is in

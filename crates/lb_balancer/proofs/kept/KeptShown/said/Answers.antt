@@ -12,5 +12,5 @@ returns-in-Some g c b kept =
     let Words = GenerationValue g.row.D.Denot g.row.S-Config.Denot g.row.R.Denot in
     let n = (arc_value c.args.self.now.shown).generation in
     let is = c.deref.ensures ∙ words-of b n c.args.self.now.ready c.in-Some.ready c.in-Some.is kept.1 in
-    subst (λ (v : Words). IfSome c.said.result (λ j. JudgedIn g.R.KeyRule.gives v.balancer v.number c.args.backend.now j.ready)) is
+    subst (λ (v : Words). IfSome c.said.result (JudgedIn g.R.KeyRule.gives v.balancer v.number c.args.backend.now)) is
     c.said.ensures

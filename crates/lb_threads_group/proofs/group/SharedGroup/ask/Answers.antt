@@ -1,27 +1,20 @@
 -- What the group under its lock says of a backend, by the registry under its own.
-use Rattle.std.proofs.Common.{◌==◌, rules, subst, sym}
+use Rattle.std.proofs.Common.{rules, subst, sym}
 use Rattle.lb_threads_core.proofs.Histories.{at_site}
-use Rattle.lb_threads_core.specs.CellWords.{WasHealthy}
-use Rattle.lb_threads_group.specs.Found.{FlaggedAt}
-use Rattle.lb_threads_group.proofs.Findings.{flagged-now, found-now}
+use Rattle.lb_threads_core.specs.Registry.{IsRegistryOf}
+use Rattle.lb_threads_group.specs.Group.{IsState}
+use Rattle.lb_threads_group.proofs.Findings.{found-now}
 use Rattle.lb_threads_group.proofs.group.SharedGroup.ask.Goals as goal
 
-pub note-requires-clause-flagged : goal.note-requires-clause-flagged
-note-requires-clause-flagged g c =
-    let b = c.args.backend.now in
-    let newest = c.newest.result == c.generation.result in
-    let cell = c.in-Some.cell in
-    let enabled = c.in-Some.is_enabled in
-    let now = flagged-now c.args.self.now c.take-held.result.value.core c.args.reader.now.generation c.generation.result c.newest.result b
-    cell enabled (search rules, c.founded.ensures) (rw c.core-group.ensures at c.in-Some.ensures)
-    (rw c.core-group.ensures at c.newest.ensures) c.generation.ensures in
-    subst (λ s. FlaggedAt s c.args.found.now.generation b cell enabled newest) (sym c.requires.found.0)
-    (subst (λ n. FlaggedAt c.args.self.now n b cell enabled newest) (sym c.requires.found.1) now)
+pub note-requires-clause-group : goal.note-requires-clause-group
+note-requires-clause-group g c =
+    subst (λ s. IsState s.core c.core-group.result.now) (sym c.requires.found.0)
+    (rw c.core-group.ensures (search rules, c.founded.ensures))
 
-pub note-requires-clause-healthy : goal.note-requires-clause-healthy
-note-requires-clause-healthy g c =
-    subst (λ s. WasHealthy g.R.KeyRule.gives s.registry c.in-Some.cell c.cell_ready.result) (sym c.requires.found.0)
-    (c.take_registry-cells.result.value, (at_site (search rules) c.take_registry-cells.ensures.registry, c.cell_ready.ensures))
+pub note-requires-clause-registry : goal.note-requires-clause-registry
+note-requires-clause-registry g c =
+    subst (λ s. IsRegistryOf g.R.KeyRule.gives s.registry c.take_registry-cells.result.value) (sym c.requires.found.0)
+    (at_site (search rules) c.take_registry-cells.ensures.registry)
 
 pub returns : goal.returns
 returns g c =
