@@ -8,6 +8,7 @@ pub mod Removals
 pub mod Indexing
 pub mod Lists
 pub mod Marking
+pub mod Nearby
 pub mod Owners
 pub mod Placing
 pub mod Ranks

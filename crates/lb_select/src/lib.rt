@@ -6,6 +6,7 @@ mod chain;
 pub mod crc;
 mod divisor;
 mod fill;
+mod guide;
 mod index;
 pub mod ketama;
 pub mod least;

@@ -1,6 +1,6 @@
 //! Partial sums, and the search among them for the interval that holds a place.
 //! The one way to a sum is a reader's one call, which counts: each read is counted by its reader.
-ghost use Rattle.std.specs.Prelude.{◌≡◌, ◌+◌, ◌-◌, ◌^◌, ◌<◌, ◌≤◌, ◌++◌, ◌∷◌, [], ℕ, List, Some, IfOk, length, slice_get};
+ghost use Rattle.std.specs.Prelude.{◌≡◌, ◌+◌, ◌-◌, ◌^◌, ◌<◌, ◌≤◌, ◌++◌, ◌∷◌, [], ℕ, List, Some, IfOk, IsTrue, length, slice_get};
 ghost use Rattle.lb_select.specs.Sums.{NeverFalls, IsBelowLast, IsPlaceAt, HasBinaryDigits};
 
 use std::alloc::{AllocError, Global};
@@ -42,6 +42,26 @@ impl Sums {
         ensures { result ≡ length self.now }
     {
         self.list.len()
+    }
+
+    /// Returns whether the sum at this index is the first one above a place, by at most two reads.
+    #[inline]
+    #[tactic(auto, using(crate::proofs::Nearby::place_at_first, crate::proofs::Nearby::place_at_later))]
+    pub(crate) fn is_at(&self, index: usize, place: u64) -> bool
+        requires { NeverFalls self.now }
+        ensures { IsTrue result → IsPlaceAt self.now place index }
+    {
+        if index >= self.len() {
+            return false;
+        }
+        let mut reader = self.reader();
+        if reader.read(index) <= place {
+            return false;
+        }
+        if index == 0 {
+            return true;
+        }
+        reader.read(index - 1) <= place
     }
 
     /// Returns a reader of these sums, which has read none.

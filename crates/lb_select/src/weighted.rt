@@ -14,6 +14,7 @@ ghost use Rattle.lb_select.specs.Weights.{total_weight, weighted_refusal, HoldsP
 ghost use Rattle.lb_select.specs.Weights.{IsWeightedWalk, IsWeightedRest};
 
 use crate::divisor::Divisor;
+use crate::guide::Guide;
 use crate::sums::{Sums, index_of_place};
 use lb_select_base::algorithms::FnvHasher;
 use lb_select_base::backend::Backend;
@@ -37,6 +38,8 @@ pub struct Weighted<H = FnvHasher> {
     backends: Vec<Backend>,
     // for each backend the sum of the weights up to it, its own among them
     sums: Sums,
+    // where a search among them may begin
+    guide: Guide,
     total: Divisor,
     algorithm: H,
 }
@@ -116,14 +119,17 @@ impl<H: SelectionAlgorithm> Weighted<H> {
         let total = sum_of_weights(backends).ok_or(Refusal::WeightTooLarge)?;
         let mut list = Vec::with_capacity(alloc, backends.len())?;
         let mut sums = Sums::with_capacity(alloc, backends.len())?;
+        let mut guide = Guide::new(alloc, total, backends.len())?;
         let mut sum = 0u64;
         for backend in backends {
             sum += backend.weight as u64;
+            guide.cover(list.len(), sum)?;
             add_member(&mut list, &mut sums, sum, backend)?;
         }
         Ok(Weighted {
             backends: list,
             sums,
+            guide,
             total: Divisor::new(total),
             algorithm: H::new(),
         })
@@ -155,6 +161,26 @@ impl<H: SelectionAlgorithm> Weighted<H> {
         }
     }
 
+    // The index of the backend whose interval of partial sums contains a place: the one that the guide names or the next one, or else what
+    // the search finds.
+    #[inline]
+    #[tactic(auto, using(crate::proofs::Nearby::held_at))]
+    fn index_of(&self, place: u64) -> usize
+        requires { place < total_weight self.now }
+        ensures index { HoldsPlace self.now place result }
+        ensures inside { result < length self.now }
+    {
+        let start = self.guide.start(place);
+        if self.sums.is_at(start, place) {
+            return start;
+        }
+        let next = start.saturating_add(1);
+        if self.sums.is_at(next, place) {
+            return next;
+        }
+        self.locate(place).index
+    }
+
     // Draws the word of a key.
     fn draw<W: WordSource>(&self, words: &mut W, key: &[u8]) -> u64
         ensures { (ds : List Draw) × Gives W.gives words.old ds words.new × H.gives_word key.now ds result }
@@ -182,7 +208,7 @@ impl<H: SelectionAlgorithm> Weighted<H> {
         requires { 0 < total_weight self.now }
         ensures { (m : Member) × (slice_get self.now result ≡ Some m) × IsFirstChoice self.now word m }
     {
-        self.locate(self.place_of(word)).index
+        self.index_of(self.place_of(word))
     }
 
     // The index of the fallback for a word.
