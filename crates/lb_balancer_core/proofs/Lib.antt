@@ -8,3 +8,4 @@ pub mod LeastCauses
 pub mod Memberships
 pub mod Plains
 pub mod Visits
+pub mod Copies

@@ -1,7 +1,9 @@
 //! A selection from a group by its port: a reader enters, its selector's walk is searched, and the reader leaves. Each call of the port is
 //! one step, and other threads' steps may fall between.
-ghost use Rattle.std.specs.Prelude.{◌≡◌};
-ghost use Rattle.lb_balancer_core.specs.Looks.{Answers, SelectsBy, SelectedThrough};
+ghost use Rattle.std.specs.Prelude.{◌≡◌, false};
+ghost use Rattle.lb_select_base.specs.Backends.{Member};
+ghost use Rattle.lb_select_base.specs.Unique.{has_backend};
+ghost use Rattle.lb_balancer_core.specs.Looks.{Answers, AsCopied, IsCopied, SelectsBy, SelectedThrough};
 
 use crate::port::SelectPort;
 use crate::words::ReaderWords;
@@ -63,8 +65,49 @@ pub fn select_for<S: BackendSelection, P: SelectPort<S>, F: Fn(&Backend, bool) -
     ensures { SelectsBy (λ b ready a. Answers F.Fn accept.now b ready a) limit P.draws P.readies
         (S.walks reader.now.members reader.now.config key.now) port.old reader.now result port.new }
 {
+    let found = find_for(alloc, port, reader, key, limit, accept);
+    copied_answer(alloc, found)
+}
+
+/// Returns what `select_for` returns, in place: `copied_answer` gives the copy.
+///
+/// # Errors
+///
+/// `OutOfMemory` where memory is refused.
+pub fn find_for<'r, S: BackendSelection, P: SelectPort<S>, F: Fn(&Backend, bool) -> bool>(
+    alloc: Global,
+    port: &mut P,
+    reader: &'r Reader<S>,
+    key: &[u8],
+    limit: usize,
+    accept: &F,
+) -> Result<Option<&'r Backend>, Refusal>
+    requires accept { F.IsAlwaysCallable accept.now }
+    requires own { P.owns_reader port.old reader.now }
+    ensures { AsCopied (λ a. SelectsBy (λ b ready a. Answers F.Fn accept.now b ready a) limit P.draws P.readies
+        (S.walks reader.now.members reader.now.config key.now) port.old reader.now a port.new) result }
+{
     let mut words = ReaderWords { port, reader };
     first_accepted(alloc, &mut words, key, limit, accept)
+}
+
+/// Returns a copy of what a selection found in place.
+///
+/// # Errors
+///
+/// Those of the selection, and `OutOfMemory` where memory for the copy is refused.
+#[inline]
+pub fn copied_answer(
+    alloc: Global,
+    found: Result<Option<&Backend>, Refusal>,
+) -> Result<Option<Backend>, Refusal>
+    ensures { IsCopied found.entry result }
+{
+    match found {
+        Ok(Some(backend)) => Ok(Some(backend.copied(alloc)?)),
+        Ok(None) => Ok(None),
+        Err(refusal) => Err(refusal),
+    }
 }
 
 // A reader's selector, borrowed for as long as the reader: the walk is then apart from the words, and counts no `Arc`.
@@ -75,38 +118,48 @@ fn lent_by<'r, S: BackendSelection>(reader: &'r Reader<S>) -> &'r S
     reader.selector()
 }
 
-// The first of the walk that is accepted. What is refused is not copied.
+// Whether a backend came already. Where none came a selection is spared the look.
+#[inline]
+fn is_repeat(seen: &SeenBackends, some_came: bool, backend: &Backend) -> bool
+    requires { some_came ≡ false → (q : Member) → has_backend seen.now q ≡ false }
+    ensures { result ≡ has_backend seen.now backend.now }
+{
+    some_came && seen.contains(backend)
+}
+
+// The first of the walk that is accepted, in place.
 fn first_accepted<'p, 'r, S: BackendSelection, P: SelectPort<S>, F: Fn(&Backend, bool) -> bool>(
     alloc: Global,
     words: &mut ReaderWords<'p, 'r, S, P>,
     key: &[u8],
     limit: usize,
     accept: &F,
-) -> Result<Option<Backend>, Refusal>
+) -> Result<Option<&'r Backend>, Refusal>
     requires accept { F.IsAlwaysCallable accept.now }
     requires own { P.owns_reader words.old.port.now words.old.reader.now }
-    ensures selects { SelectsBy (λ b ready a. Answers F.Fn accept.now b ready a) limit P.draws P.readies
+    ensures found { AsCopied (λ a. SelectsBy (λ b ready a. Answers F.Fn accept.now b ready a) limit P.draws P.readies
         (S.walks words.old.reader.now.members words.old.reader.now.config key.now) words.old.port.now words.old.reader.now
-        result words.new.port.now }
+        a words.new.port.now) result }
     ensures same_reference { words.new.port.ghost_name ≡ words.old.port.ghost_name }
 {
     let reader: &'r Reader<S> = words.reader;
     let of = lent_by(reader);
     let mut walk = of.start(key, words)?;
     let mut seen = SeenBackends::new(alloc);
+    let mut some_came = false;
     for _ in 0..limit {
         let Some(candidate) = of.step(&mut walk, words) else {
             return Ok(None);
         };
-        if seen.contains(candidate) {
+        if is_repeat(&seen, some_came, candidate) {
             continue;
         }
         let ready = words.port.ready(words.reader, candidate);
         if accept(candidate, ready) {
-            let answer = candidate.copied(alloc)?;
-            return Ok(Some(answer));
+            return Ok(Some(candidate));
         }
         seen.remember(candidate)?;
+        some_came = true;
     }
     // The candidate past the limit is drawn too, and not looked at.
     let _past = of.step(&mut walk, words);
