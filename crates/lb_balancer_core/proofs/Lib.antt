@@ -8,4 +8,3 @@ pub mod LeastCauses
 pub mod Memberships
 pub mod Plains
 pub mod Visits
-pub mod Copies

@@ -14,10 +14,11 @@ use Rattle.lb_select_base.specs.Backends.{Member, same_member}
 use Rattle.lb_select_base.specs.Draws.{Draw, Gives}
 use Rattle.lb_select_base.specs.Walks.{Continues, IsStep, Begins}
 use Rattle.lb_select_base.specs.Unique.{distinct, has_backend}
+use Rattle.lb_select_base.specs.Copies.{AsCopied}
 use Rattle.lb_select_base.specs.UniqueLaws.{AreSeen}
 use Rattle.lb_select_base.proofs.Lists.{append-nil, Each-push, distinct-new}
 use Rattle.lb_select_base.proofs.Turns.{Continues-append, Continues-closed, seen_repeats, seen_new}
-use Rattle.lb_balancer_core.specs.Looks.{Look, drew, told, draws_of, told_of, Looks, AsCopied, SelectsBy}
+use Rattle.lb_balancer_core.specs.Looks.{Look, drew, told, draws_of, told_of, Looks, SelectsBy}
 
 -- calls after calls
 draws-append : (ls ms : List Look) → draws_of (ls ++ ms) ≡ draws_of ls ++ draws_of ms

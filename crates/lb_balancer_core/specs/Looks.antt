@@ -69,18 +69,6 @@ module _ (accepts : Member → Bool → Bool → Type 0) (limit : ℕ) where
         × (cs : List Member) × walks (draws_of ls) cs false × (length cs ≤ limit)
         × (map (λ x. x.0) (told_of ls) ≡ distinct same_member cs)))
 
--- what is answered, where what was found in place is copied: the copy may be refused for memory
-abbrev pub IsCopied : Result (Option (Bor Member)) Refusal → Result (Option Member) Refusal → Type 0
-IsCopied (Ok (Some b)) r = (r ≡ Ok (Some b.now)) ⊎ (r ≡ Err refusal.OutOfMemory)
-IsCopied (Ok None) r = r ≡ Ok None
-IsCopied (Err e) r = r ≡ Err e
-
--- T holds of each answer that a copy of what was found in place may give
-abbrev pub AsCopied : (Result (Option Member) Refusal → Type 0) → Result (Option (Bor Member)) Refusal → Type 0
-AsCopied T (Ok (Some b)) = T (Ok (Some b.now)) × T (Err refusal.OutOfMemory)
-AsCopied T (Ok None) = T (Ok None)
-AsCopied T (Err e) = T (Err e)
-
 -- whether there is no such slot
 abbrev pub is_no_such : Refusal → Bool
 is_no_such refusal.NoSuch = true

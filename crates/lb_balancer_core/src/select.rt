@@ -1,9 +1,8 @@
 //! A selection from a group by its port: a reader enters, its selector's walk is searched, and the reader leaves. Each call of the port is
 //! one step, and other threads' steps may fall between.
-ghost use Rattle.std.specs.Prelude.{◌≡◌, false};
-ghost use Rattle.lb_select_base.specs.Backends.{Member};
-ghost use Rattle.lb_select_base.specs.Unique.{has_backend};
-ghost use Rattle.lb_balancer_core.specs.Looks.{Answers, AsCopied, IsCopied, SelectsBy, SelectedThrough};
+ghost use Rattle.std.specs.Prelude.{◌≡◌};
+ghost use Rattle.lb_select_base.specs.Copies.{AsCopied};
+ghost use Rattle.lb_balancer_core.specs.Looks.{Answers, SelectsBy, SelectedThrough};
 
 use crate::port::SelectPort;
 use crate::words::ReaderWords;
@@ -11,6 +10,7 @@ use lb_rebuild_core::retired::Reader;
 use lb_select_base::backend::Backend;
 use lb_select_base::refusal::Refusal;
 use lb_select_base::seen::SeenBackends;
+use lb_select_base::select::copied_answer;
 use lb_select_base::walk::BackendSelection;
 use std::alloc::Global;
 
@@ -91,40 +91,12 @@ pub fn find_for<'r, S: BackendSelection, P: SelectPort<S>, F: Fn(&Backend, bool)
     first_accepted(alloc, &mut words, key, limit, accept)
 }
 
-/// Returns a copy of what a selection found in place.
-///
-/// # Errors
-///
-/// Those of the selection, and `OutOfMemory` where memory for the copy is refused.
-#[inline]
-pub fn copied_answer(
-    alloc: Global,
-    found: Result<Option<&Backend>, Refusal>,
-) -> Result<Option<Backend>, Refusal>
-    ensures { IsCopied found.entry result }
-{
-    match found {
-        Ok(Some(backend)) => Ok(Some(backend.copied(alloc)?)),
-        Ok(None) => Ok(None),
-        Err(refusal) => Err(refusal),
-    }
-}
-
 // A reader's selector, borrowed for as long as the reader: the walk is then apart from the words, and counts no `Arc`.
 fn lent_by<'r, S: BackendSelection>(reader: &'r Reader<S>) -> &'r S
     ensures members { S.members result.now ≡ reader.now.members }
     ensures config { S.built_with result.now ≡ reader.now.config }
 {
     reader.selector()
-}
-
-// Whether a backend came already. Where none came a selection is spared the look.
-#[inline]
-fn is_repeat(seen: &SeenBackends, some_came: bool, backend: &Backend) -> bool
-    requires { some_came ≡ false → (q : Member) → has_backend seen.now q ≡ false }
-    ensures { result ≡ has_backend seen.now backend.now }
-{
-    some_came && seen.contains(backend)
 }
 
 // The first of the walk that is accepted, in place.
@@ -146,12 +118,11 @@ fn first_accepted<'p, 'r, S: BackendSelection, P: SelectPort<S>, F: Fn(&Backend,
     let of = lent_by(reader);
     let mut walk = of.start(key, words)?;
     let mut seen = SeenBackends::new(alloc);
-    let mut some_came = false;
     for _ in 0..limit {
         let Some(candidate) = of.step(&mut walk, words) else {
             return Ok(None);
         };
-        if is_repeat(&seen, some_came, candidate) {
+        if !seen.is_empty() && seen.contains(candidate) {
             continue;
         }
         let ready = words.port.ready(words.reader, candidate);
@@ -159,7 +130,6 @@ fn first_accepted<'p, 'r, S: BackendSelection, P: SelectPort<S>, F: Fn(&Backend,
             return Ok(Some(candidate));
         }
         seen.remember(candidate)?;
-        some_came = true;
     }
     // The candidate past the limit is drawn too, and not looked at.
     let _past = of.step(&mut walk, words);

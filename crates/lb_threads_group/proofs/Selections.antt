@@ -7,8 +7,8 @@ use Rattle.lb_select_base.specs.Draws.{Draw}
 use Rattle.lb_select_base.specs.declared.refusal.Refusal.{Refusal}
 use Rattle.lb_select_base.specs.declared.refusal.Refusal.TheVariants.{OutOfMemory}
 use Rattle.lb_rebuild_core.specs.Values.{ReaderValue}
-use Rattle.lb_balancer_core.specs.Looks.{AsCopied}
-use Rattle.lb_balancer_core.proofs.Copies.{copies_hold}
+use Rattle.lb_select_base.specs.Copies.{AsCopied}
+use Rattle.lb_select_base.proofs.Copies.{copies_hold}
 use Rattle.lb_threads_group.specs.Kept.{IsKept, SelectsUnder, SelectedFrom}
 use Rattle.lb_threads_group.specs.Shared.{SharedValue}
 

@@ -1,17 +1,19 @@
 //! Selections of threads from a group that they share: in what a lane of the slot has, or else by the group's lock.
 ghost use Rattle.std.specs.Prelude.{◌≡◌, Err, IfSome, MatchBool, None, Ok};
-ghost use Rattle.lb_balancer_core.specs.Looks.{Answers, AsCopied, is_no_such};
+ghost use Rattle.lb_balancer_core.specs.Looks.{Answers, is_no_such};
+ghost use Rattle.lb_select_base.specs.Copies.{AsCopied};
 ghost use Rattle.lb_threads_group.specs.Kept.{IsEntry, SelectedFrom, SelectsUnder};
 
 use crate::group::SharedGroup;
 use crate::kept::Entry;
 use crate::port::LockedPort;
-use lb_balancer_core::select::{copied_answer, find_for};
+use lb_balancer_core::select::find_for;
 use lb_health_core::health_check::HealthCheck;
 use lb_health_core::keys::KeyRule;
 use lb_rebuild_core::retired::Reader;
 use lb_select_base::backend::Backend;
 use lb_select_base::refusal::Refusal;
+use lb_select_base::select::copied_answer;
 use lb_select_base::walk::BackendSelection;
 use lb_threads_core::lane::Seen;
 use lb_threads_core::lanes::hint_of;
@@ -25,9 +27,10 @@ impl<S: BackendSelection, R: KeyRule + Drop, C: HealthCheck + Drop> SharedGroup<
     /// `accept` is asked with a backend and whether it is ready, while no lock is held. Only the first `max_iterations` candidates are
     /// looked at. It is `None` too where no such slot is there.
     ///
-    /// A reader enters the slot for it. Then it leaves, or a lane of the slot keeps it for the selections that follow, which take no lock,
-    /// in a cancelled group too; they ask under locks where memory for words was refused, and once `let_go` was called. The worker that
-    /// publishes empties the slot's lanes, so that no lane keeps a retired selector once the selections in it have ended, and fills them.
+    /// A reader enters the slot for it. Then it leaves, or a lane of the slot keeps it for the selections that follow, in a cancelled group
+    /// too. They take no lock but for a candidate that has no word, where memory for words was refused or no place was left for its own,
+    /// and once `let_go` was called. The worker that publishes empties the slot's lanes, so that no lane keeps a retired selector once the
+    /// selections in it have ended, and fills them.
     ///
     /// # Errors
     ///

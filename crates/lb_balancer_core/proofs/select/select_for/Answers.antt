@@ -1,5 +1,5 @@
 use Rattle.lb_balancer_core.specs.Looks.{Answers, SelectsBy}
-use Rattle.lb_balancer_core.proofs.Copies.{copied_holds}
+use Rattle.lb_select_base.proofs.Copies.{copied_holds}
 use Rattle.lb_balancer_core.proofs.select.select_for.Goals as goal
 
 pub returns : goal.returns

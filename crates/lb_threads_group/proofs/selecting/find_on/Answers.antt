@@ -1,6 +1,6 @@
 -- What is selected by the port is selected at states of its group.
 use Rattle.lb_balancer_core.specs.Looks.{Answers}
-use Rattle.lb_balancer_core.proofs.Copies.{copies_hold}
+use Rattle.lb_select_base.proofs.Copies.{copies_hold}
 use Rattle.lb_threads_group.specs.Group.{ReadyUnder}
 use Rattle.lb_threads_group.specs.Kept.{SelectsUnder}
 use Rattle.lb_threads_group.proofs.Sites.{selects_here}

@@ -1,6 +1,6 @@
 -- A copy of what was found is what is selected.
 use Rattle.lb_balancer_core.specs.Looks.{Answers}
-use Rattle.lb_balancer_core.proofs.Copies.{copied_holds}
+use Rattle.lb_select_base.proofs.Copies.{copied_holds}
 use Rattle.lb_threads_group.specs.Kept.{SelectsUnder}
 use Rattle.lb_threads_group.proofs.group.SharedGroup.select_as.Goals as goal
 

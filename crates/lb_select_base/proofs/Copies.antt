@@ -1,10 +1,10 @@
 -- What holds of each copy of an answer in place.
-use Rattle.std.specs.Prelude.{◌≡◌, ◌⊎◌, Option, Some, None, Result, Ok, Err}
+use Rattle.std.specs.Prelude.{Option, Some, None, Result, Ok, Err}
 use Rattle.std.specs.Borrow.{Bor}
 use Rattle.std.proofs.Common.{sym, subst, inl, inr}
 use Rattle.lb_select_base.specs.Backends.{Member}
 use Rattle.lb_select_base.specs.declared.refusal.Refusal.{Refusal}
-use Rattle.lb_balancer_core.specs.Looks.{IsCopied, AsCopied}
+use Rattle.lb_select_base.specs.Copies.{IsCopied, AsCopied}
 
 -- what holds of each copy holds of this one
 pub copied_holds : (T : Result (Option Member) Refusal → Type 0) (found : Result (Option (Bor Member)) Refusal)
