@@ -4,7 +4,6 @@ ghost use Rattle.std.specs.Arc.{arc_value};
 ghost use Rattle.std.specs.Fn.{FnReturnsAt};
 ghost use Rattle.std.specs.List.{list_any};
 ghost use Rattle.lb_select_base.specs.Backends.{Member, same_member};
-ghost use Rattle.lb_select_base.specs.Copies.{AsCopied};
 ghost use Rattle.lb_rebuild_core.specs.GroupCalls.{AcceptsBy};
 ghost use Rattle.lb_balancer.specs.Shown.{SelectsOf, is_ready, is_up};
 
@@ -12,7 +11,7 @@ use crate::words::LoadedWords;
 use lb_rebuild_core::group::ready_ones;
 use lb_select_base::backend::Backend;
 use lb_select_base::refusal::Refusal;
-use lb_select_base::select::{copied_answer, find};
+use lb_select_base::select::select;
 use lb_select_base::walk::BackendSelection;
 use lb_select_base::words::SharedWords;
 use lb_threads_core::generators::SharedGenerator;
@@ -150,24 +149,23 @@ impl<S: BackendSelection> Shown<S> {
             requires { F.IsAlwaysCallable accept.now }
             ensures { AcceptsBy F.Fn accept.entry.now (λ b ready. ready ≡ is_up shown.entry.now.unready b) backend.entry.now result }
         { accept(backend, shown.was_ready(backend)) };
-        let found = self.find_drawing(rt, alloc, None, key, max_iterations, &judged);
-        copied_answer(alloc, found)
+        self.select_drawing(rt, alloc, None, key, max_iterations, &judged)
     }
 
-    // Returns in place the first backend that `accept` takes, with random words of this generator, or of the selector's own for `None`.
+    // Returns the first backend that `accept` takes, with random words of this generator, or of the selector's own for `None`.
     #[inline]
-    pub(crate) fn find_drawing<'s, W: Wait, F: Fn(&Backend) -> bool>(
-        &'s self,
+    pub(crate) fn select_drawing<W: Wait, F: Fn(&Backend) -> bool>(
+        &self,
         rt: &W,
         alloc: Global,
         generator: Option<&SharedGenerator>,
         key: &[u8],
         max_iterations: usize,
         accept: &F,
-    ) -> Result<Option<&'s Backend>, Refusal>
+    ) -> Result<Option<Backend>, Refusal>
         requires { F.IsAlwaysCallable accept.now }
-        ensures answers { AsCopied (SelectsOf same_member (λ b a. FnReturnsAt F.Fn accept.now b a) max_iterations
-            (S.walks self.now.members self.now.config key.now)) result }
+        ensures answers { SelectsOf same_member (λ b a. FnReturnsAt F.Fn accept.now b a) max_iterations
+            (S.walks self.now.members self.now.config key.now) result }
     {
         let shared: &SharedWords = &*self.words;
         let mut words = LoadedWords {
@@ -177,8 +175,14 @@ impl<S: BackendSelection> Shown<S> {
             load_words: self.load_words(),
             rt,
         };
-        let selector: &'s S = &*self.selector;
-        find(alloc, selector, key, &mut words, max_iterations, accept)
+        select(
+            alloc,
+            &self.selector,
+            key,
+            &mut words,
+            max_iterations,
+            accept,
+        )
     }
 
     /// Returns the first backend that was ready, as `select_with` finds it.

@@ -1,7 +1,6 @@
 pub mod AddressRoundTrip
 pub mod AddressTexts
 pub mod Clones
-pub mod Copies
 pub mod LeastCauses
 pub mod Lists
 pub mod LoadTables

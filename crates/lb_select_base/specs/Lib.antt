@@ -2,7 +2,6 @@ pub mod AddressText
 pub mod AlgorithmLaws
 pub mod Algorithms
 pub mod Backends
-pub mod Copies
 pub mod Draws
 pub mod Held
 pub mod Identity
