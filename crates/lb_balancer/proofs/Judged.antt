@@ -1,14 +1,18 @@
 -- A selection in what is shown, and which members are found not ready.
-use Rattle.std.proofs.Common.{◌≡◌, ◌∷◌, ℕ, Bool, true, false, List, [], take, Option, Some, None, Result, Ok, Err}
-use Rattle.std.proofs.Common.{sym, subst}
+use Rattle.std.specs.Prelude.{IfErr}
+use Rattle.std.proofs.Common.{◌≡◌, ◌⊎◌, ◌∷◌, ℕ, Bool, true, false, List, [], take, Option, Some, None, Result, Ok, Err}
+use Rattle.std.proofs.Common.{sym, subst, inl, inr}
 use Rattle.std.specs.Borrow.{Bor}
 use Rattle.std.specs.Fn.{Shared, FnReturns, FnReturnsAt}
 use Rattle.std.specs.List.{AllByRecursion as Each}
 use Rattle.lb_select_base.specs.Backends.{Member, same_member}
 use Rattle.lb_select_base.specs.Draws.{Draw}
+use Rattle.lb_select_base.specs.Copies.{AsCopied}
 use Rattle.lb_select_base.specs.Selections.{IsAnswer, Selects}
 use Rattle.lb_select_base.specs.Unique.{distinct}
 use Rattle.lb_select_base.specs.declared.refusal.Refusal.{Refusal}
+use Rattle.lb_select_base.specs.declared.refusal.Refusal.TheVariants.{OutOfMemory}
+use Rattle.lb_select_base.proofs.Copies.{copies_hold}
 use Rattle.lb_rebuild_core.specs.GroupCalls.{AcceptsBy}
 use Rattle.lb_balancer.specs.Shown.{SelectsOf}
 
@@ -48,6 +52,30 @@ pub asked-more : {F : Type 0} {g : Shared F (Bor Member × Unit {0}) Bool} {f : 
     → SelectsOf same_member (λ b a. FnReturnsAt g f b a) limit walks r → ((b : Member) (a : Bool) → FnReturnsAt g f b a → Q b a)
     → SelectsOf same_member Q limit walks r
 asked-more {g = g} {f = f} Q limit walks r is more = of-more same_member (λ b a. FnReturnsAt g f b a) Q more limit walks r is
+
+-- the same of each copy of what was found in place
+pub forgot_copies : {S : Type 0} (accepts : Member → Bool → Type 0) (limit : ℕ) (gives : S → Draw → S → Type 0)
+    (walks : List Draw → List Member → Bool → Type 0) (s t : S) (found : Result (Option (Bor Member)) Refusal)
+    → AsCopied (λ a. Selects same_member accepts limit gives walks s a t) found
+    → AsCopied (SelectsOf same_member accepts limit walks) found
+forgot_copies accepts limit gives walks s t found is =
+    copies_hold (λ a. Selects same_member accepts limit gives walks s a t) (SelectsOf same_member accepts limit walks)
+    (forgot same_member accepts limit gives walks s t) found is
+
+pub asked_copies : {F : Type 0} {g : Shared F (Bor Member × Unit {0}) Bool} {f : F} (Q : Member → Bool → Type 0) (limit : ℕ)
+    (walks : List Draw → List Member → Bool → Type 0) (found : Result (Option (Bor Member)) Refusal)
+    → AsCopied (SelectsOf same_member (λ b a. FnReturnsAt g f b a) limit walks) found
+    → ((b : Member) (a : Bool) → FnReturnsAt g f b a → Q b a) → AsCopied (SelectsOf same_member Q limit walks) found
+asked_copies {g = g} {f = f} Q limit walks found is more =
+    copies_hold (SelectsOf same_member (λ b a. FnReturnsAt g f b a) limit walks) (SelectsOf same_member Q limit walks)
+    (λ r told. asked-more Q limit walks r told more) found is
+
+-- an answer that is one of these two is refused for memory alone
+pub either_refused : (r : Result (Option Member) Refusal) (b : Member) → (r ≡ Ok (Some b)) ⊎ (r ≡ Err OutOfMemory)
+    → IfErr r (λ e. e ≡ OutOfMemory)
+either_refused (Ok o) b is = tt
+either_refused (Err e) b (inl is) = absurd (cc)
+either_refused (Err e) b (inr is) = cc
 
 -- where what was asked answers by what it is passed, what it accepts is what is right
 pub of-told : {F : Type 0} {g : Shared F (Bor Member × (Bool × Unit {0})) Bool} {f : F} (right : Member → Bool → Type 0) (limit : ℕ)

@@ -6,6 +6,7 @@ ghost use Rattle.lb_rebuild_core.specs.GroupCalls.{AcceptsBy};
 ghost use Rattle.lb_balancer.specs.History.{IsServedBy, JudgedBy, JudgedIn};
 ghost use Rattle.lb_balancer.specs.Kept.{IsKept};
 ghost use Rattle.lb_balancer.specs.Selections.{IsReadyIn, SelectsFrom};
+ghost use Rattle.lb_select_base.specs.Copies.{AsCopied};
 
 use crate::balancing::Balancing;
 use crate::kept::KeptShown;
@@ -16,6 +17,7 @@ use lb_health_core::keys::KeyRule;
 use lb_health_view::discovery::ServiceDiscovery;
 use lb_select_base::backend::Backend;
 use lb_select_base::refusal::Refusal;
+use lb_select_base::select::copied_answer;
 use lb_select_base::walk::BackendSelection;
 use lb_threads_core::flag_words::Flagged;
 use lb_threads_core::generators::SharedGenerator;
@@ -221,6 +223,26 @@ impl<
         ensures answers { SelectsFrom R.gives self.now (AcceptsBy F.Fn accept.now) max_iterations S.walks key.now
             (arc_value kept.now.shown) result }
     {
+        let found = self.find_kept(rt, alloc, kept, generator, key, max_iterations, accept);
+        copied_answer(alloc, found)
+    }
+
+    // Selects in what is kept, as `select_kept` does, and gives what was found in place.
+    pub(crate) fn find_kept<'k, W: Wait, F: Fn(&Backend, bool) -> bool>(
+        &self,
+        rt: &W,
+        alloc: Global,
+        kept: &'k KeptShown<S, D, R, C>,
+        generator: Option<&SharedGenerator>,
+        key: &[u8],
+        max_iterations: usize,
+        accept: &F,
+    ) -> Result<Option<&'k Backend>, Refusal>
+        requires accept { F.IsAlwaysCallable accept.now }
+        requires kept { IsKept R.gives self.now kept.now.shown kept.now.ready }
+        ensures answers { AsCopied (SelectsFrom R.gives self.now (AcceptsBy F.Fn accept.now) max_iterations S.walks key.now
+            (arc_value kept.now.shown)) result }
+    {
         let balancing = self;
         let judged = |backend: &Backend| -> bool
             requires accept { F.IsAlwaysCallable accept.now }
@@ -228,7 +250,7 @@ impl<
             ensures { AcceptsBy F.Fn accept.entry.now (IsReadyIn R.gives balancing.entry.now (arc_value kept.entry.now.shown))
                 backend.entry.now result }
         { accept(backend, balancing.judge(rt, kept, backend)) };
-        let shown: &Shown<S> = &*kept.shown;
-        shown.select_drawing(rt, alloc, generator, key, max_iterations, &judged)
+        let shown: &'k Shown<S> = &*kept.shown;
+        shown.find_drawing(rt, alloc, generator, key, max_iterations, &judged)
     }
 }

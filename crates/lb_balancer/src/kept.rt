@@ -1,6 +1,7 @@
 //! What a balancer keeps in its lanes, and selections in it without a lock. A selection finds out by one load whether its lane has the
 //! generation that is served now, and by two whether a backend is ready: those of its word and of its cell's word.
-ghost use Rattle.std.specs.Prelude.{◌≡◌, IfErr, IfOk, IfSome, OnOk};
+ghost use Rattle.std.specs.Prelude.{◌≡◌, ◌⊎◌, Err, IfErr, IfOk, IfSome, Ok, OnOk, Some};
+ghost use Rattle.lb_select_base.specs.Backends.{Member};
 ghost use Rattle.std.specs.Arc.{arc_value};
 ghost use Rattle.lb_rebuild_core.specs.GroupCalls.{AcceptsBy};
 ghost use Rattle.lb_balancer.specs.History.{BalancerValue, FlaggedIn, IsShownBy, JudgedBy, JudgedIn};
@@ -155,7 +156,16 @@ impl<
             return None;
         }
         let generator = self.lanes.generator(hint);
-        Some(self.select_kept(rt, alloc, kept, generator, key, max_iterations, accept))
+        match self.find_kept(rt, alloc, kept, generator, key, max_iterations, accept) {
+            Ok(Some(found)) => {
+                // The step that ends the reading waits until the copy is written, so that is moved after it.
+                let copy = found.copied(alloc);
+                drop(seen);
+                Some(answer_of(copy))
+            }
+            Ok(None) => Some(Ok(None)),
+            Err(refusal) => Some(Err(refusal)),
+        }
     }
 
     // Whether a backend is ready in the newest membership, as its words say, or since that doesn't list it, where the second lane has what
@@ -220,4 +230,11 @@ impl<
             Err(_) => drop(self.lanes.clear(lane, &self.origin)),
         }
     }
+}
+
+// What is answered where this copy was made of what was found.
+fn answer_of(copy: Result<Backend, AllocError>) -> Result<Option<Backend>, Refusal>
+    ensures { (b : Member) → IfOk copy (λ c. c ≡ b) → (result ≡ Ok (Some b)) ⊎ (result ≡ Err Refusal.OutOfMemory) }
+{
+    Ok(Some(copy?))
 }

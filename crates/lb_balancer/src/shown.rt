@@ -4,6 +4,7 @@ ghost use Rattle.std.specs.Arc.{arc_value};
 ghost use Rattle.std.specs.Fn.{FnReturnsAt};
 ghost use Rattle.std.specs.List.{list_any};
 ghost use Rattle.lb_select_base.specs.Backends.{Member, same_member};
+ghost use Rattle.lb_select_base.specs.Copies.{AsCopied};
 ghost use Rattle.lb_rebuild_core.specs.GroupCalls.{AcceptsBy};
 ghost use Rattle.lb_balancer.specs.Shown.{SelectsOf, is_ready, is_up};
 
@@ -11,7 +12,7 @@ use crate::words::LoadedWords;
 use lb_rebuild_core::group::ready_ones;
 use lb_select_base::backend::Backend;
 use lb_select_base::refusal::Refusal;
-use lb_select_base::select::select;
+use lb_select_base::select::{copied_answer, find};
 use lb_select_base::walk::BackendSelection;
 use lb_select_base::words::SharedWords;
 use lb_threads_core::generators::SharedGenerator;
@@ -149,23 +150,24 @@ impl<S: BackendSelection> Shown<S> {
             requires { F.IsAlwaysCallable accept.now }
             ensures { AcceptsBy F.Fn accept.entry.now (λ b ready. ready ≡ is_up shown.entry.now.unready b) backend.entry.now result }
         { accept(backend, shown.was_ready(backend)) };
-        self.select_drawing(rt, alloc, None, key, max_iterations, &judged)
+        let found = self.find_drawing(rt, alloc, None, key, max_iterations, &judged);
+        copied_answer(alloc, found)
     }
 
-    // Returns the first backend that `accept` takes, with random words of this generator, or of the selector's own for `None`.
+    // Returns in place the first backend that `accept` takes, with random words of this generator, or of the selector's own for `None`.
     #[inline]
-    pub(crate) fn select_drawing<W: Wait, F: Fn(&Backend) -> bool>(
-        &self,
+    pub(crate) fn find_drawing<'s, W: Wait, F: Fn(&Backend) -> bool>(
+        &'s self,
         rt: &W,
         alloc: Global,
         generator: Option<&SharedGenerator>,
         key: &[u8],
         max_iterations: usize,
         accept: &F,
-    ) -> Result<Option<Backend>, Refusal>
+    ) -> Result<Option<&'s Backend>, Refusal>
         requires { F.IsAlwaysCallable accept.now }
-        ensures answers { SelectsOf same_member (λ b a. FnReturnsAt F.Fn accept.now b a) max_iterations
-            (S.walks self.now.members self.now.config key.now) result }
+        ensures answers { AsCopied (SelectsOf same_member (λ b a. FnReturnsAt F.Fn accept.now b a) max_iterations
+            (S.walks self.now.members self.now.config key.now)) result }
     {
         let shared: &SharedWords = &*self.words;
         let mut words = LoadedWords {
@@ -175,14 +177,8 @@ impl<S: BackendSelection> Shown<S> {
             load_words: self.load_words(),
             rt,
         };
-        select(
-            alloc,
-            &self.selector,
-            key,
-            &mut words,
-            max_iterations,
-            accept,
-        )
+        let selector: &'s S = &*self.selector;
+        find(alloc, selector, key, &mut words, max_iterations, accept)
     }
 
     /// Returns the first backend that was ready, as `select_with` finds it.

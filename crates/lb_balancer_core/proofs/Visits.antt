@@ -1,6 +1,7 @@
 -- A selection by a port on its way: the calls for the reader, the candidates that were looked at, and what each end answers.
 use Rattle.std.specs.Prelude.{◌≡◌, ℕ, ◌+◌, ◌<◌, ◌≤◌, Bool, true, false, ◌||◌, List, [], ◌∷◌, ◌++◌, length, map, Option, Some, None, Result}
 use Rattle.std.specs.Prelude.{Ok, Err, refl}
+use Rattle.std.specs.Borrow.{Bor}
 use Rattle.std.proofs.Common.{sym, ap, ◌∙◌, arith, inl, inr, length-append, subst}
 use mathlib.Core.List.{map-append}
 use Rattle.std.specs.List.{AllByRecursion as Each}
@@ -13,6 +14,7 @@ use Rattle.lb_select_base.specs.Backends.{Member, same_member}
 use Rattle.lb_select_base.specs.Draws.{Draw, Gives}
 use Rattle.lb_select_base.specs.Walks.{Continues, IsStep, Begins}
 use Rattle.lb_select_base.specs.Unique.{distinct, has_backend}
+use Rattle.lb_select_base.specs.Copies.{AsCopied}
 use Rattle.lb_select_base.specs.UniqueLaws.{AreSeen}
 use Rattle.lb_select_base.proofs.Lists.{append-nil, Each-push, distinct-new}
 use Rattle.lb_select_base.proofs.Turns.{Continues-append, Continues-closed, seen_repeats, seen_new}
@@ -335,6 +337,11 @@ module _ {W P R N : Type 0} (port_of : W → P) (reader_of : W → R) (name_of :
               let whole = asked_whole
               in (refused, inr (whole.looks, whole.looked, p.searched ++ b ∷ [], whole.walked, asked_few, asked_firsts))
 
+          pub visit_refuses : (r : Result (Option (Bor Member)) Refusal) → IsErrAnd r (λ e. e ≡ OutOfMemory)
+              → AsCopied (λ a. accepted s₀ a q) r
+          visit_refuses (Ok o) refused = absurd refused
+          visit_refuses (Err e) refused = visit_refused (Err e) refused
+
         -- the reader and the place of the port are those of the beginning
         module _ (r : Option Member) (n : I) (v : W) (step : IsStep GivesThrough walk j t r n v) where
           visit_same : Same s₀ v
@@ -358,9 +365,3 @@ module _ {W P R N : Type 0} (port_of : W → P) (reader_of : W → R) (name_of :
               (looks_keep draws readies (reader_of s₀) (λ x. owns x (reader_of s₀)) (λ x d y. draw x (reader_of s₀) d y)
               (λ x b a y. ready x (reader_of s₀) b a y)
               (port_of s₀) (port_of v) (drawn begins.0 ++ with_step p step.0 []) all own)
-
-      -- a walk that could not be begun has made no call
-      pub visit_unbegun : {s₀ s : W} (e : Refusal) → Begins GivesThrough walk walks s₀ (Err e) s
-          → (r : Result (Option Member) Refusal) → IsErrAnd r (λ y. y ≡ e) → accepted s₀ r (port_of s)
-      visit_unbegun e begins (Ok o) refused = absurd refused
-      visit_unbegun e begins (Err y) refused = (refused ∙ begins.1, inl (ap port_of begins.0))

@@ -1,6 +1,7 @@
 //! A selection from a group by its port: a reader enters, its selector's walk is searched, and the reader leaves. Each call of the port is
 //! one step, and other threads' steps may fall between.
 ghost use Rattle.std.specs.Prelude.{◌≡◌};
+ghost use Rattle.lb_select_base.specs.Copies.{AsCopied};
 ghost use Rattle.lb_balancer_core.specs.Looks.{Answers, SelectsBy, SelectedThrough};
 
 use crate::port::SelectPort;
@@ -9,6 +10,7 @@ use lb_rebuild_core::retired::Reader;
 use lb_select_base::backend::Backend;
 use lb_select_base::refusal::Refusal;
 use lb_select_base::seen::SeenBackends;
+use lb_select_base::select::copied_answer;
 use lb_select_base::walk::BackendSelection;
 use std::alloc::Global;
 
@@ -63,6 +65,28 @@ pub fn select_for<S: BackendSelection, P: SelectPort<S>, F: Fn(&Backend, bool) -
     ensures { SelectsBy (λ b ready a. Answers F.Fn accept.now b ready a) limit P.draws P.readies
         (S.walks reader.now.members reader.now.config key.now) port.old reader.now result port.new }
 {
+    let found = find_for(alloc, port, reader, key, limit, accept);
+    copied_answer(alloc, found)
+}
+
+/// Returns what `select_for` returns, in place: `copied_answer` gives the copy.
+///
+/// # Errors
+///
+/// `OutOfMemory` where memory is refused.
+pub fn find_for<'r, S: BackendSelection, P: SelectPort<S>, F: Fn(&Backend, bool) -> bool>(
+    alloc: Global,
+    port: &mut P,
+    reader: &'r Reader<S>,
+    key: &[u8],
+    limit: usize,
+    accept: &F,
+) -> Result<Option<&'r Backend>, Refusal>
+    requires accept { F.IsAlwaysCallable accept.now }
+    requires own { P.owns_reader port.old reader.now }
+    ensures { AsCopied (λ a. SelectsBy (λ b ready a. Answers F.Fn accept.now b ready a) limit P.draws P.readies
+        (S.walks reader.now.members reader.now.config key.now) port.old reader.now a port.new) result }
+{
     let mut words = ReaderWords { port, reader };
     first_accepted(alloc, &mut words, key, limit, accept)
 }
@@ -75,19 +99,19 @@ fn lent_by<'r, S: BackendSelection>(reader: &'r Reader<S>) -> &'r S
     reader.selector()
 }
 
-// The first of the walk that is accepted. What is refused is not copied.
+// The first of the walk that is accepted, in place.
 fn first_accepted<'p, 'r, S: BackendSelection, P: SelectPort<S>, F: Fn(&Backend, bool) -> bool>(
     alloc: Global,
     words: &mut ReaderWords<'p, 'r, S, P>,
     key: &[u8],
     limit: usize,
     accept: &F,
-) -> Result<Option<Backend>, Refusal>
+) -> Result<Option<&'r Backend>, Refusal>
     requires accept { F.IsAlwaysCallable accept.now }
     requires own { P.owns_reader words.old.port.now words.old.reader.now }
-    ensures selects { SelectsBy (λ b ready a. Answers F.Fn accept.now b ready a) limit P.draws P.readies
+    ensures found { AsCopied (λ a. SelectsBy (λ b ready a. Answers F.Fn accept.now b ready a) limit P.draws P.readies
         (S.walks words.old.reader.now.members words.old.reader.now.config key.now) words.old.port.now words.old.reader.now
-        result words.new.port.now }
+        a words.new.port.now) result }
     ensures same_reference { words.new.port.ghost_name ≡ words.old.port.ghost_name }
 {
     let reader: &'r Reader<S> = words.reader;
@@ -98,13 +122,12 @@ fn first_accepted<'p, 'r, S: BackendSelection, P: SelectPort<S>, F: Fn(&Backend,
         let Some(candidate) = of.step(&mut walk, words) else {
             return Ok(None);
         };
-        if seen.contains(candidate) {
+        if !seen.is_empty() && seen.contains(candidate) {
             continue;
         }
         let ready = words.port.ready(words.reader, candidate);
         if accept(candidate, ready) {
-            let answer = candidate.copied(alloc)?;
-            return Ok(Some(answer));
+            return Ok(Some(candidate));
         }
         seen.remember(candidate)?;
     }

@@ -235,9 +235,10 @@ impl<
     /// `accept` is asked with a backend and whether it is ready, while no lock is held. Only the first `max_iterations` candidates are
     /// looked at. It is `None` too where no such slot is there.
     ///
-    /// A reader enters the slot for it. Then it leaves, or a lane of the slot keeps it for the selections that follow, which take no lock
-    /// but for a candidate that none asked for yet, and in a group that is cancelled. The worker that publishes empties the slot's lanes,
-    /// so that no lane keeps a retired selector once the selections in it have ended.
+    /// A reader enters the slot for it. Then it leaves, or a lane of the slot keeps it for the selections that follow, in a cancelled group
+    /// too. They take no lock but for a candidate that has no word: where memory for words was refused, or no place was left for its own.
+    /// The worker that publishes empties the slot's lanes, so that no lane keeps a retired selector once the selections in it have ended,
+    /// and fills them.
     ///
     /// # Errors
     ///
@@ -292,7 +293,7 @@ impl<
         self.shared.set_load(rt, alloc, backend, load)
     }
 
-    /// Stops the rebuilds for good, and marks the view for removal; selections and readings go on.
+    /// Stops the rebuilds for good, and marks the view for removal; selections and readings go on as before.
     pub fn cancel<W: Wait>(&self, rt: &W) {
         self.shared.cancel(rt);
     }

@@ -18,9 +18,8 @@ use lb_threads_group::group::SharedGroup;
 use std::alloc::Global;
 use std::sync::Wait;
 
-/// A group with a lane of its own. While nothing changes, selections of threads that have a reader each write nothing that another thread
-/// reads, but what selectors draw: a change is looked up under the locks once, and noted for all. Selections by the group's own `select`
-/// go to lanes by their keys, so that threads meet in them.
+/// A group with a lane of its own. Selections of threads that have a reader each write nothing that another thread reads, but what
+/// selectors draw. Selections by the group's own `select` go to lanes by their keys, so that threads meet in them.
 ///
 /// It keeps no selector: what a slot retires waits for the selections that run in it alone. 64 readers have lanes of their own; those
 /// past them share them.

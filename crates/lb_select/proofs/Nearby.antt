@@ -1,11 +1,8 @@
 -- A look at one sum and the one before it: whether it is the first one above a place.
-use Rattle.std.specs.Prelude.{◌≡◌, ℕ, zero, suc, ◌+◌, ◌-◌, ◌<◌, ◌≤◌, List, Some, length, slice_index, slice_get}
+use Rattle.std.specs.Prelude.{◌≡◌, ℕ, ◌-◌, ◌<◌, ◌≤◌, List, Some, length, slice_index, slice_get}
 use Rattle.std.proofs.Common.{arith}
 use Rattle.std.proofs.lemmas.Option.{get_or_from_slice_get}
-use Rattle.lb_select_base.specs.Backends.{Member}
-use Rattle.lb_select.specs.Sums.{AreSums, NeverFalls, IsPlaceAt}
-use Rattle.lb_select.specs.Weights.{HoldsPlace}
-use Rattle.lb_select.proofs.Summing.{place_held}
+use Rattle.lb_select.specs.Sums.{NeverFalls, IsPlaceAt}
 
 -- none is before the first one
 pub place_at_first :
@@ -26,13 +23,3 @@ place_at_later sums place index above below rising inside got high got_before lo
       above = omega (arith, here, high);
       before = λ i h. omega (arith, rising i (index - 1) (omega (arith, h)) (omega (arith, inside, h)), before, low);
     }
-
--- the backend there has the place
-pub held_at :
-    (ms : List Member) (sums : List ℕ) (place index : ℕ) → AreSums ms sums → IsPlaceAt sums place index
-    → HoldsPlace ms place index
-held_at ms sums place index = place_held ms sums place index
-
-pub inside_at :
-    (ms : List Member) (sums : List ℕ) (place index : ℕ) → AreSums ms sums → IsPlaceAt sums place index → index < length ms
-inside_at ms sums place index p at = omega (arith, at.inside, p.long)

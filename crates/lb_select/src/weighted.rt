@@ -164,7 +164,7 @@ impl<H: SelectionAlgorithm> Weighted<H> {
     // The index of the backend whose interval of partial sums contains a place: the one that the guide names or the next one, or else what
     // the search finds.
     #[inline]
-    #[tactic(auto, using(crate::proofs::Nearby::held_at))]
+    #[tactic(auto, using(crate::proofs::Summing::place_held))]
     fn index_of(&self, place: u64) -> usize
         requires { place < total_weight self.now }
         ensures index { HoldsPlace self.now place result }

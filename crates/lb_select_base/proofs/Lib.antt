@@ -1,6 +1,7 @@
 pub mod AddressRoundTrip
 pub mod AddressTexts
 pub mod Clones
+pub mod Copies
 pub mod LeastCauses
 pub mod Lists
 pub mod LoadTables

@@ -2,6 +2,7 @@
 use Rattle.std.specs.Prelude.{◌≡◌, ℕ, ◌+◌, ◌<◌, ◌≤◌, Bool, true, false, ◌||◌, List, [], ◌∷◌, ◌++◌, length, Option, Some, None, Result, Ok}
 use Rattle.std.specs.Prelude.{Err, refl}
 use Rattle.std.proofs.Common.{sym, ap, ◌∙◌, arith, inl, inr, length-append}
+use Rattle.std.specs.Borrow.{Bor}
 use Rattle.std.specs.List.{AllByRecursion as Each}
 use Rattle.std.specs.Result.{IsErrAnd}
 use Rattle.std.proofs.lemmas.List.{take_all, take_at}
@@ -13,6 +14,7 @@ use Rattle.lb_select_base.specs.Draws.{Draw, Gives}
 use Rattle.lb_select_base.specs.Walks.{Continues, IsStep, Begins}
 use Rattle.lb_select_base.specs.Unique.{distinct, has_backend}
 use Rattle.lb_select_base.specs.UniqueLaws.{AreSeen}
+use Rattle.lb_select_base.specs.Copies.{AsCopied}
 use Rattle.lb_select_base.specs.Selections.{IsWalked, Selects}
 use Rattle.lb_select_base.proofs.Lists.{append-nil, Each-push, distinct-new}
 use Rattle.lb_select_base.proofs.Turns.{Gives-append, Continues-append, Continues-closed, seen_repeats, seen_new}
@@ -164,6 +166,14 @@ module _ {I S : Type 0} (gives : S → Draw → S → Type 0) (walk : I → List
             (p.searched, b, refl, distinct-new same_member p.searched b (sym (p.known b) ∙ new)),
           ),
         )
+
+    -- and so is what would have been given in place
+    pub refuses_at : {s₀ s : S} {i : I} {seen : SeenBackends} {j : I} {t : S} {steps : ℕ} (b : Member) (n : I) (v : S)
+        → Begins gives walk walks s₀ (Ok i) s → Searched i s seen j t steps → IsStep gives walk j t (Some b) n v
+        → has_backend seen b ≡ false → steps < limit → (r : Result (Option (Bor Member)) Refusal) → IsErrAnd r (λ e. e ≡ OutOfMemory)
+        → AsCopied (λ a. Selects same_member accepts limit gives walks s₀ a v) r
+    refuses_at b n v begins p step new room (Ok o) refused = absurd refused
+    refuses_at b n v begins p step new room (Err e) refused = refused_at b n v begins p step new room (Err e) refused
 
     -- a walk that could not be begun has drawn nothing
     pub begins_refused : {s₀ s : S} (e : Refusal) → Begins gives walk walks s₀ (Err e) s

@@ -1,6 +1,6 @@
 -- Turns of the unique walk: what the loop of a turn has gone past, and what each of its ends gives.
 use Rattle.std.specs.Prelude.{◌≡◌, ◌+◌, ◌<◌, ◌≤◌, max, Bool, true, false, cond, ◌||◌, List, [], ◌∷◌, ◌++◌, length, Option, Some, None}
-use Rattle.std.specs.Prelude.{Result, Ok, Err, refl}
+use Rattle.std.specs.Prelude.{Result, Ok, Err, refl, is_none}
 use Rattle.std.proofs.Common.{sym, ap, ◌∙◌, append_assoc, arith, inl, inr, length-append, subst}
 use Rattle.std.specs.List.{AllByRecursion as Each, list_any}
 use Rattle.std.specs.Result.{IsErrAnd}
@@ -12,12 +12,13 @@ use Rattle.std.proofs.lemmas.Cmp.{eq_by_cmp_equiv}
 use Rattle.std.proofs.lemmas.List.Folds.{list_any-append}
 use Rattle.lb_select_base.specs.declared.refusal.Refusal.{Refusal}
 use Rattle.lb_select_base.specs.declared.refusal.Refusal.TheVariants.{OutOfMemory}
+use Rattle.lb_select_base.specs.declared.seen.Came.{Came}
 use Rattle.lb_select_base.specs.declared.seen.SeenBackends.{SeenBackends}
 use Rattle.lb_select_base.specs.declared.unique.UniqueIterator.{UniqueIterator}
 use Rattle.lb_select_base.specs.Backends.{Member, member_cmp, same_member}
 use Rattle.lb_select_base.specs.Draws.{Draw, Gives}
 use Rattle.lb_select_base.specs.Walks.{Continues, IsStep}
-use Rattle.lb_select_base.specs.Unique.{distinct, has_backend, has_seen, SeesSame, AreRepeats, IsTurn}
+use Rattle.lb_select_base.specs.Unique.{distinct, has_come, has_any, has_backend, has_seen, SeesSame, AreRepeats, IsTurn}
 use Rattle.lb_select_base.specs.UniqueLaws.{AreSeen}
 use Rattle.lb_select_base.proofs.Lists.{append-nil, Each-push, Each-weaker, distinct-new, distinct-repeats, any-repeats}
 
@@ -62,14 +63,27 @@ seen_more s n b updates q =
     rw (here, back) (elim (same_member q b) as (λ v. cond v true (contains member_cmp s q) ≡ (contains member_cmp s q || v))
     [ true ↦ sym (or-true-right (contains member_cmp s q)) | false ↦ sym (or-false (contains member_cmp s q)) ])
 
--- the backend that came last goes into the set, and nothing else changes
-pub placed : (s : SeenBackends) (n : BTreeSet Member) (taken after : Option Member) (b : Member)
-    → taken ≡ s.last → taken ≡ Some b → after ≡ None → Updates member_cmp s.identities n b true
-    → (q : Member) → has_backend (record s { identities = n; last = after }) q ≡ has_backend s q
-placed s n taken after b was is empty updates q =
-    let last : s.last ≡ Some b = sym was ∙ is in
-    let more : contains member_cmp n q ≡ (contains member_cmp s.identities q || same_member q b) = seen_more s.identities n b updates q in
-    rw (empty, last) (or-false (contains member_cmp n q) ∙ more)
+or-swap : (a b c : Bool) → (a || (b || c)) ≡ ((c || b) || a)
+or-swap true b c = sym (or-true-right (c || b))
+or-swap false true c = sym (or-false (c || true) ∙ or-true-right c)
+or-swap false false c = sym (or-false (c || false) ∙ or-false c)
+
+-- where the one that came last goes into the set, and another one comes, that one has come too
+pub come_more : (s : SeenBackends) (c : Came) (n : BTreeSet Member) (identity b : Member) → s.came ≡ Some c
+    → ((q : Member) → same_member q identity ≡ same_member q b) → Updates member_cmp c.earlier n c.last true
+    → (q : Member) → has_come (record { last = identity; earlier = n }) q ≡ (has_backend s q || same_member q b)
+come_more s c n identity b was same updates q =
+    let more : contains member_cmp n q ≡ (contains member_cmp c.earlier q || same_member q c.last) =
+    seen_more c.earlier n c.last updates q in
+    rw (was, same q, more) (or-swap (same_member q b) (contains member_cmp c.earlier q) (same_member q c.last))
+
+-- where none came, no backend came
+none_any : (o : Option Came) (empty : Bool) → empty ≡ is_none o → empty ≡ true → (q : Member) → has_any o q ≡ false
+none_any None empty is none q = refl
+none_any (Some c) empty is none q = absurd (cc)
+
+pub none_came : (s : SeenBackends) (empty : Bool) → empty ≡ is_none s.came → empty ≡ true → (q : Member) → has_backend s q ≡ false
+none_came s empty is none q = none_any s.came empty is none q
 
 -- what is found in a list with one more at its end
 any-push : {B : Type 0} (p : B → Bool) (xs : List B) (x : B) → list_any p (xs ++ x ∷ []) ≡ (list_any p xs || p x)

@@ -2,6 +2,7 @@ pub mod AddressText
 pub mod AlgorithmLaws
 pub mod Algorithms
 pub mod Backends
+pub mod Copies
 pub mod Draws
 pub mod Held
 pub mod Identity

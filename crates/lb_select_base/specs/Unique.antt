@@ -5,6 +5,7 @@ use Rattle.std.specs.List.{AllByRecursion as Each, list_any}
 use Rattle.std.specs.BTreeSet.{contains}
 use Rattle.lb_select_base.specs.declared.refusal.Refusal.{Refusal}
 use Rattle.lb_select_base.specs.declared.refusal.Refusal.TheVariants.{OutOfMemory}
+use Rattle.lb_select_base.specs.declared.seen.Came.{Came}
 use Rattle.lb_select_base.specs.declared.seen.SeenBackends.{SeenBackends}
 use Rattle.lb_select_base.specs.declared.unique.UniqueIterator.{UniqueIterator}
 use Rattle.lb_select_base.specs.Backends.{Member, member_cmp, same_member}
@@ -22,14 +23,17 @@ module _ {B : Type 0} (same : B → B → Bool) where
   abbrev pub distinct : List B → List B
   distinct xs = firsts [] xs
 
--- whether a backend of this identity is the one that came last
-abbrev pub is_last : Option Member → Member → Bool
-is_last None q = false
-is_last (Some b) q = same_member q b
+-- whether a backend of this identity is among those that came: it came last, or is in the set of the earlier ones
+abbrev pub has_come : Came → Member → Bool
+has_come c q = same_member q c.last || contains member_cmp c.earlier q
 
--- whether a backend of this identity came already: it is in the set, or came last
+-- whether a backend of this identity came already
+abbrev pub has_any : Option Came → Member → Bool
+has_any None q = false
+has_any (Some c) q = has_come c q
+
 abbrev pub has_backend : SeenBackends → Member → Bool
-has_backend s q = contains member_cmp s.identities q || is_last s.last q
+has_backend s q = has_any s.came q
 
 -- the same of the backends that a unique walk has seen
 abbrev pub has_seen : {I : Type 0} → UniqueIterator I → Member → Bool

@@ -3,5 +3,6 @@ pub mod Entries
 mod Findings
 pub mod NumberLemmas
 pub mod Releases
+pub mod Selections
 pub mod Sites
 mod Unlisted

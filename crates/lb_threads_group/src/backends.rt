@@ -37,7 +37,7 @@ impl<S: BackendSelection, R: KeyRule + Drop, C: HealthCheck + Drop> SharedGroup<
     /// Returns whether a backend is ready in the newest membership, without taking memory.
     ///
     /// It mostly takes no lock. It does before the first update and while one that another thread makes hasn't returned yet, where memory
-    /// for words was refused, and once the group is cancelled.
+    /// for words was refused, and once `let_go` was called.
     pub fn ready<W: Wait>(&self, rt: &W, backend: &Backend) -> bool
         ensures { NewestReadyUnder R.gives self.now backend.now result }
     {

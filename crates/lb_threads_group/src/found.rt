@@ -377,30 +377,11 @@ impl<S: BackendSelection, R: KeyRule + Drop, C: HealthCheck + Drop> SharedGroup<
         drop((members, unneeded));
     }
 
-    // Judges each backend that a slot serves, where it has no word yet. It is for the thread that publishes or checks, so that requests
-    // seldom have to ask.
-    pub(crate) fn judge_all<W: Wait>(&self, rt: &W, slot: usize) {
-        let Ok(entry) = self.enter_lane(rt, slot) else {
-            return;
-        };
-        if let Some(found) = &entry.found {
-            self.judge_each(rt, &**found, &entry.reader);
-        }
-        self.leave_entry(rt, entry);
-    }
-
-    // Judges each backend that has a word.
-    fn judge_each<W: Wait>(&self, rt: &W, found: &Found<S, R, C>, reader: &Reader<S>)
-        requires found { found.now.site ≡ self.now }
-        requires own { reader.now.group ≡ self.now.core.group.id }
-    {
-        if found.generation() != reader.generation() {
-            return;
-        }
-        for mark in found.marks() {
-            if let Some(backend) = mark {
-                self.judge(rt, found, reader, backend);
-            }
+    // Has the words of a generation that was built for a slot say which of its backends are ready. It is for the thread that publishes it
+    // then, so that requests needn't ask.
+    pub(crate) fn note_built<W: Wait>(&self, rt: &W, slot: usize, generation: u64) {
+        if let Some(found) = self.found_for(rt, slot, generation) {
+            self.note_members(rt, &*found);
         }
     }
 

@@ -72,8 +72,6 @@ struct SlotCounters {
 pub(crate) struct Marks {
     // Whether only workers use the group now.
     let_go: AtomicBool,
-    // Whether lanes and words are used no more.
-    is_closed: AtomicBool,
     // How many threads asked for lanes of their own, wrapping.
     pub(crate) readers: AtomicU64,
 }
@@ -199,7 +197,6 @@ impl<S: BackendSelection, R: KeyRule + Drop, C: HealthCheck + Drop> SharedGroup<
             lines,
             marks: Marks {
                 let_go: AtomicBool::new(false),
-                is_closed: AtomicBool::new(false),
                 readers: AtomicU64::new(0),
             },
             site,
@@ -213,6 +210,8 @@ impl<S: BackendSelection, R: KeyRule + Drop, C: HealthCheck + Drop> SharedGroup<
     }
 
     /// Stops the rebuilds for good, and marks the group's view for removal. It takes no memory.
+    ///
+    /// Selections and readings go on as before: what the slots serve, and the newest membership, keep their cells.
     pub fn cancel<W: Wait>(&self, rt: &W) {
         // `_gate`, `_board` and `founded()` are for the prover alone: they show it the group's invariant, and do nothing at run time.
         let _gate = &self.gate;
@@ -222,30 +221,19 @@ impl<S: BackendSelection, R: KeyRule + Drop, C: HealthCheck + Drop> SharedGroup<
         held.value.cancel(&mut registry.value);
         put_registry(registries, registry);
         self.lock.put(held);
-        self.close();
-        for slot in 0..self.slot_count() {
-            self.clear_lanes(rt, slot);
-        }
         self.gate.wakes().wake();
     }
 
     /// Has workers cancel the group at their next turn. It takes no lock and no memory.
     pub fn let_go(&self) {
         self.marks.let_go.store(true, SeqCst);
-        self.close();
         self.gate.wakes().wake();
     }
 
-    // Has no selection go by lanes and words any more.
-    fn close(&self) {
-        self.marks.is_closed.store(true, SeqCst);
-    }
-
-    // Whether selections go by lanes and words. In a group that is cancelled or dropped they don't, since others' calls may then remove
-    // its cells.
+    // Whether selections go by lanes and words. Once `let_go` was called they don't, since the registry's next call releases the cells.
     #[inline]
     pub(crate) fn is_open(&self) -> bool {
-        !self.marks.is_closed.load(SeqCst)
+        !self.is_let_go()
     }
 
     /// Returns whether `let_go` was called.

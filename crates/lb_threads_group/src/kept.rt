@@ -245,13 +245,4 @@ impl<S: BackendSelection, R: KeyRule + Drop, C: HealthCheck + Drop> SharedGroup<
             self.keep(rt, lane, entry);
         }
     }
-
-    // Empties the lanes of a slot.
-    pub(crate) fn clear_lanes<W: Wait>(&self, rt: &W, slot: usize) {
-        if let Some(lanes) = self.lanes_of(slot) {
-            for lane in 0..lanes.count() {
-                self.clear_lane(rt, lanes, lane as u64);
-            }
-        }
-    }
 }

@@ -104,7 +104,7 @@ impl<S: BackendSelection, R: KeyRule + Drop, C: HealthCheck + Drop> SharedGroup<
         self.expect_newest(rt, found);
         // What flags reach from now on.
         if let Some(found) = self.found_for(rt, place, generation) {
-            self.judge_newest(rt, &*found);
+            self.note_members(rt, &*found);
             self.fill_newest(&members, &found);
         }
     }
@@ -122,7 +122,7 @@ impl<S: BackendSelection, R: KeyRule + Drop, C: HealthCheck + Drop> SharedGroup<
     }
 
     // Has the words say what group and registry have of each member.
-    fn judge_newest<W: Wait>(&self, rt: &W, found: &Found<S, R, C>)
+    pub(crate) fn note_members<W: Wait>(&self, rt: &W, found: &Found<S, R, C>)
         requires { found.now.site ≡ self.now }
     {
         for mark in found.marks() {

@@ -237,13 +237,13 @@ impl<
         let _gate = &group.gate;
         let slot = built.slot();
         let generation = built.generation();
+        group.note_built(self.rt, slot, generation);
         let mut held = group.lock.take(self.rt);
         held.value.founded();
         let told = held.value.publish(built);
         group.note_slot(&held.value, slot);
         group.lock.put(held);
         group.fill_lanes(self.rt, slot);
-        group.judge_all(self.rt, slot);
         match told {
             Ok(told) => told,
             Err(built) => {

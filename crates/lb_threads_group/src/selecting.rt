@@ -1,17 +1,19 @@
 //! Selections of threads from a group that they share: in what a lane of the slot has, or else by the group's lock.
 ghost use Rattle.std.specs.Prelude.{◌≡◌, Err, IfSome, MatchBool, None, Ok};
 ghost use Rattle.lb_balancer_core.specs.Looks.{Answers, is_no_such};
+ghost use Rattle.lb_select_base.specs.Copies.{AsCopied};
 ghost use Rattle.lb_threads_group.specs.Kept.{IsEntry, SelectedFrom, SelectsUnder};
 
 use crate::group::SharedGroup;
 use crate::kept::Entry;
 use crate::port::LockedPort;
-use lb_balancer_core::select::select_for;
+use lb_balancer_core::select::find_for;
 use lb_health_core::health_check::HealthCheck;
 use lb_health_core::keys::KeyRule;
 use lb_rebuild_core::retired::Reader;
 use lb_select_base::backend::Backend;
 use lb_select_base::refusal::Refusal;
+use lb_select_base::select::copied_answer;
 use lb_select_base::walk::BackendSelection;
 use lb_threads_core::lane::Seen;
 use lb_threads_core::lanes::hint_of;
@@ -25,9 +27,10 @@ impl<S: BackendSelection, R: KeyRule + Drop, C: HealthCheck + Drop> SharedGroup<
     /// `accept` is asked with a backend and whether it is ready, while no lock is held. Only the first `max_iterations` candidates are
     /// looked at. It is `None` too where no such slot is there.
     ///
-    /// A reader enters the slot for it. Then it leaves, or a lane of the slot keeps it for the selections that follow, which take no lock
-    /// but for a candidate that none asked for yet, and in a group that is cancelled. The worker that publishes empties the slot's lanes,
-    /// so that no lane keeps a retired selector once the selections in it have ended.
+    /// A reader enters the slot for it. Then it leaves, or a lane of the slot keeps it for the selections that follow, in a cancelled group
+    /// too. They take no lock but for a candidate that has no word, where memory for words was refused or no place was left for its own,
+    /// and once `let_go` was called. The worker that publishes empties the slot's lanes, so that no lane keeps a retired selector once the
+    /// selections in it have ended, and fills them.
     ///
     /// # Errors
     ///
@@ -72,9 +75,26 @@ impl<S: BackendSelection, R: KeyRule + Drop, C: HealthCheck + Drop> SharedGroup<
         let Some(seen) = self.seen_in_lane(rt, slot, lane) else {
             return self.select_entering(rt, alloc, slot, lane, key, max_iterations, accept);
         };
-        let answer = self.select_seen(rt, alloc, slot, lane, &seen, key, max_iterations, accept);
-        self.end_reading(rt, seen);
-        answer
+        let Some(entry) = self.entry_of(&seen, slot) else {
+            self.end_reading(rt, seen);
+            return self.select_entering(rt, alloc, slot, lane, key, max_iterations, accept);
+        };
+        match self.find_as(rt, alloc, entry, lane, key, max_iterations, accept) {
+            Ok(Some(found)) => {
+                // The step that ends the reading waits until the copy is written, so that is moved after it.
+                let copy = found.copied(alloc);
+                self.end_reading(rt, seen);
+                Ok(Some(copy?))
+            }
+            Ok(None) => {
+                self.end_reading(rt, seen);
+                Ok(None)
+            }
+            Err(refusal) => {
+                self.end_reading(rt, seen);
+                Err(refusal)
+            }
+        }
     }
 
     /// Returns the number of a lane for a thread of its own: 1, and two more with each call, wrapping.
@@ -83,31 +103,6 @@ impl<S: BackendSelection, R: KeyRule + Drop, C: HealthCheck + Drop> SharedGroup<
     pub fn own_lane(&self) -> u64 {
         let readers = self.marks.readers.fetch_add(1, SeqCst);
         readers.wrapping_mul(2).wrapping_add(1)
-    }
-
-    // Selects in what a lane has, where it is of this slot.
-    fn select_seen<W: Wait, F: Fn(&Backend, bool) -> bool>(
-        &self,
-        rt: &W,
-        alloc: Global,
-        slot: usize,
-        hint: u64,
-        seen: &Seen<'_, Entry<S, R, C>>,
-        key: &[u8],
-        max_iterations: usize,
-        accept: &F,
-    ) -> Result<Option<Backend>, Refusal>
-        requires accept { F.IsAlwaysCallable accept.now }
-        requires here { seen.now.hand.tag ≡ self.now }
-        ensures { SelectedFrom R.gives (λ b ready a. Answers F.Fn accept.now b ready a) max_iterations S.walks key.now self.now slot
-            result }
-    {
-        match self.entry_in(seen) {
-            Some(entry) if entry.slot == slot => {
-                self.select_as(rt, alloc, entry, hint, key, max_iterations, accept)
-            }
-            _ => self.select_entering(rt, alloc, slot, hint, key, max_iterations, accept),
-        }
     }
 
     // Enters the slot, selects, and puts what was entered into the hint's lane.
@@ -148,6 +143,21 @@ impl<S: BackendSelection, R: KeyRule + Drop, C: HealthCheck + Drop> SharedGroup<
         seen.value()
     }
 
+    // What a lane has, where it is of this slot.
+    fn entry_of<'s>(
+        &self,
+        seen: &'s Seen<'_, Entry<S, R, C>>,
+        slot: usize,
+    ) -> Option<&'s Entry<S, R, C>>
+        requires { seen.now.hand.tag ≡ self.now }
+        ensures { IfSome result (λ e. (e.now.slot ≡ slot) × IsEntry self.now e.now.slot e.now.reader e.now.found) }
+    {
+        match self.entry_in(seen) {
+            Some(entry) if entry.slot == slot => Some(entry),
+            _ => None,
+        }
+    }
+
     // Selects in what was entered.
     fn select_as<W: Wait, F: Fn(&Backend, bool) -> bool>(
         &self,
@@ -164,20 +174,42 @@ impl<S: BackendSelection, R: KeyRule + Drop, C: HealthCheck + Drop> SharedGroup<
         ensures { SelectsUnder R.gives (λ b ready a. Answers F.Fn accept.now b ready a) max_iterations S.walks key.now self.now
             entry.now.reader result }
     {
+        let found = self.find_as(rt, alloc, entry, lane, key, max_iterations, accept);
+        copied_answer(alloc, found)
+    }
+
+    // Selects in what was entered, and gives what was found in place.
+    fn find_as<'e, W: Wait, F: Fn(&Backend, bool) -> bool>(
+        &self,
+        rt: &W,
+        alloc: Global,
+        entry: &'e Entry<S, R, C>,
+        lane: u64,
+        key: &[u8],
+        max_iterations: usize,
+        accept: &F,
+    ) -> Result<Option<&'e Backend>, Refusal>
+        requires accept { F.IsAlwaysCallable accept.now }
+        requires kept { IsEntry self.now entry.now.slot entry.now.reader entry.now.found }
+        ensures { AsCopied (SelectsUnder R.gives (λ b ready a. Answers F.Fn accept.now b ready a) max_iterations S.walks key.now self.now
+            entry.now.reader) result }
+    {
         let mut port = LockedPort {
             group: self,
             rt,
             found: entry.words(),
             lane,
         };
-        select_on(alloc, &mut port, &entry.reader, key, max_iterations, accept)
+        find_on(alloc, &mut port, &entry.reader, key, max_iterations, accept)
     }
 }
 
-fn select_on<
+// Selects for a reader by this port, and gives what was found in place.
+fn find_on<
     'g,
     'r,
     'f,
+    'e,
     S: BackendSelection,
     R: KeyRule + Drop,
     C: HealthCheck + Drop,
@@ -186,17 +218,17 @@ fn select_on<
 >(
     alloc: Global,
     port: &mut LockedPort<'g, 'r, 'f, S, W, R, C>,
-    reader: &Reader<S>,
+    reader: &'e Reader<S>,
     key: &[u8],
     max_iterations: usize,
     accept: &F,
-) -> Result<Option<Backend>, Refusal>
+) -> Result<Option<&'e Backend>, Refusal>
     requires accept { F.IsAlwaysCallable accept.now }
     requires own { reader.now.group ≡ port.old.group.now.core.group.id }
-    ensures { SelectsUnder R.gives (λ b ready a. Answers F.Fn accept.now b ready a) max_iterations S.walks key.now port.old.group.now
-        reader.now result }
+    ensures { AsCopied (SelectsUnder R.gives (λ b ready a. Answers F.Fn accept.now b ready a) max_iterations S.walks key.now
+        port.old.group.now reader.now) result }
 {
-    select_for(alloc, port, reader, key, max_iterations, accept)
+    find_for(alloc, port, reader, key, max_iterations, accept)
 }
 
 // What is selected where no reader entered.

@@ -89,7 +89,7 @@ pub fn reader_stays<S: BackendSelection, R: KeyRule + Drop, C: HealthCheck + Dro
 }
 
 /// A group is cancelled while a reader stays in what it retired: the selector that it serves goes on, by the health of cells that nothing
-/// checks any more, and the permit comes back once the reader has left.
+/// checks any more and without the registry's lock, which this very thread holds, and the permit comes back once the reader has left.
 pub fn cancelled_while_read<
     S: BackendSelection,
     R: KeyRule + Drop,
@@ -104,7 +104,9 @@ pub fn cancelled_while_read<
     let cell = targets.get(0).map(|target| target.cell).unwrap_or(0);
     group.cancel(rt);
     let read = destroyed(rt, group, 0);
+    let held = take_registry(registry, rt);
     let before = select_one(rt, alloc, group, 0).expect(rt, "refused");
+    put_registry(registry, held);
     group.leave(rt, reader);
     let gone = destroyed(rt, group, 0);
     let unchecked = registry.target_count(rt, alloc);

@@ -1,22 +1,14 @@
--- Each candidate is judged at its own moment.
-use Rattle.std.proofs.Common.{subst}
+-- A copy of what was found is what is selected.
 use Rattle.std.specs.Arc.{arc_value}
-use Rattle.lb_select_base.specs.Backends.{same_member}
+use Rattle.lb_select_base.proofs.Copies.{copied_holds}
 use Rattle.lb_rebuild_core.specs.GroupCalls.{AcceptsBy}
-use Rattle.lb_balancer.specs.Selections.{IsReadyIn}
-use Rattle.lb_balancer.specs.Shown.{SelectsOf, ShownValue}
-use Rattle.lb_balancer.proofs.Judged.{asked-more}
+use Rattle.lb_balancer.specs.Selections.{SelectsFrom}
 use Rattle.lb_balancer.proofs.balancing.Balancing.select_kept.Goals as goal
 
 pub returns : goal.returns
-returns g c =
-    let kept = arc_value c.args.kept.now.shown in
-    let accepts = AcceptsBy g.F.Fn c.args.accept.now (IsReadyIn g.R.KeyRule.gives c.args.self.now kept) in
-    let Walks : ShownValue g.row.S-Config.Denot → Type 0 = λ x. SelectsOf same_member accepts c.args.max_iterations
-    (g.S.BackendSelection.walks x.members x.config c.args.key.now) c.select_drawing.result in
-    let seen = c.deref-shown.result.now in
-    record {
-      answers = subst Walks c.deref-shown.ensures
-          (asked-more accepts c.args.max_iterations (g.S.BackendSelection.walks seen.members seen.config c.args.key.now)
-          c.select_drawing.result c.select_drawing.ensures.answers (λ b a is. subst (λ m. accepts m a) is.shows is.says.met));
-    }
+returns g c = record {
+  answers = copied_holds
+      (SelectsFrom g.R.KeyRule.gives c.args.self.now (AcceptsBy g.F.Fn c.args.accept.now) c.args.max_iterations
+      g.S.BackendSelection.walks c.args.key.now (arc_value c.args.kept.now.shown))
+      c.find_kept-found.result c.copied_answer.result c.find_kept-found.ensures.answers c.copied_answer.ensures;
+}
