@@ -65,11 +65,10 @@ enum OfGroups {
     ClockGoesBack,
     CancelledWhileRead,
     ReadyWhileBehind,
-    RetiredWhileSelected,
     TicketsOfEach,
 }
 
-const ROWS: [Row; 19] = [
+const ROWS: [Row; 18] = [
     Row::OfHandle(OfHandle::WithoutWorkers),
     Row::OfHandle(OfHandle::WithWorkers),
     Row::OfHandle(OfHandle::StartsButOne),
@@ -87,7 +86,6 @@ const ROWS: [Row; 19] = [
     Row::OfGroups(OfGroups::ClockGoesBack),
     Row::OfGroups(OfGroups::CancelledWhileRead),
     Row::OfGroups(OfGroups::ReadyWhileBehind),
-    Row::OfGroups(OfGroups::RetiredWhileSelected),
     Row::OfGroups(OfGroups::TicketsOfEach),
 ];
 
@@ -156,7 +154,6 @@ fn play_groups<
             staying::cancelled_while_read(rt, alloc, first, registry)
         }
         OfGroups::ReadyWhileBehind => staying::ready_while_behind(rt, alloc, first, registry),
-        OfGroups::RetiredWhileSelected => staying::retired_while_selected(rt, alloc, first),
         OfGroups::TicketsOfEach => tickets::tickets_of_each(rt, alloc, first),
     }
 }

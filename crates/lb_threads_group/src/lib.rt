@@ -3,7 +3,6 @@
 #![tactic(auto)]
 
 mod backends;
-mod filling;
 pub mod found;
 pub mod group;
 pub mod kept;
