@@ -63,8 +63,8 @@ type ShownLock<S, D, R, C> = KeyedLock<
 
 type GenerationNumber<S, D, R, C> = KeyedNumbers<Snapshot<Origin<S, D, R, C>>, OfGeneration>;
 
-// The number of lanes: as many as threads that select at once may want, a power of two.
-const LANES: usize = 128;
+// The number of lanes, a power of two: half of them on each side, as many as threads that select at once may want.
+const LANES: usize = 256;
 
 // What a balancer has for its threads: the locks of what is served and of what is shown of it, the generation that is served, the lanes, a
 // generator, and the loads.
@@ -263,8 +263,7 @@ impl<
         let end = clock.now();
         let timing = UpdateTimings::between(start, end, build_duration);
         *self.timing.lock(rt) = Some(timing);
-        self.judge_all(rt);
-        self.spread(rt);
+        self.tidy_lanes(rt);
         Ok(())
     }
 
@@ -400,40 +399,76 @@ impl<
         let (unserved, answer) = held
             .value
             .renew(alloc, &mut cells.value, members, settings, built);
+        put_registry(registries, cells);
         let unshown = match answer {
-            Ok(_) => self.exchange(rt, alloc, &held.value, &cells.value, ready),
+            Ok(_) => self.exchange(rt, alloc, &held.value, ready),
             Err(_) => None,
         };
-        put_registry(registries, cells);
         self.serving.put(held);
         drop((unserved, unshown));
         answer
     }
 
-    // Shows what is served now, with these words, then counts the change, and then notes the generation, so that a selection after its
-    // reading is of no earlier one. Returns what was shown before. Where memory is refused, the next selection shows it.
+    // What is served now, with these words, to be shown once the change is counted. `None` where memory is refused.
+    fn kept_of<W: Wait>(
+        &self,
+        rt: &W,
+        alloc: Global,
+        serving: &Serving<S>,
+        ready: Option<Arc<Readiness<S, D, R, C>>>,
+    ) -> Option<KeptShown<S, D, R, C>>
+        requires served { IsServedBy self.now serving.now.served }
+        requires ready { IfSome ready (λ r. (arc_value r).balancer ≡ self.now) }
+        ensures { IfSome result (λ k. IsKept R.gives self.now k.shown k.ready) }
+    {
+        let registries = self.origin.registry();
+        let cells = take_registry(registries, rt);
+        let version = Version {
+            balancer: self.changes.load(SeqCst).wrapping_add(1),
+            registry: registries.changes(),
+        };
+        let told = shown_of(
+            alloc,
+            serving,
+            &cells.value,
+            &self.loads,
+            version,
+            &self.origin,
+        );
+        put_registry(registries, cells);
+        match told {
+            Ok(shown) => Some(KeptShown::new(shown, ready)),
+            Err(_) => None,
+        }
+    }
+
+    // Shows what is served now, with these words: they say all first, and the lanes that readers don't use have it. Then it counts the
+    // change, and notes the generation, so that a selection after its reading is of no earlier one. Returns what was shown before. Where
+    // memory is refused, the next selection shows it. The caller has the lock of what is served.
     fn exchange<W: Wait>(
         &self,
         rt: &W,
         alloc: Global,
         serving: &Serving<S>,
-        registry: &Registry<R>,
         ready: Option<Arc<Readiness<S, D, R, C>>>,
     ) -> Option<KeptShown<S, D, R, C>>
         requires served { IsServedBy self.now serving.now.served }
-        requires registry { IsRegistryOf R.gives self.now.registry registry.now }
         requires ready { IfSome ready (λ r. (arc_value r).balancer ≡ self.now) }
     {
-        let version = Version {
-            balancer: self.changes.load(SeqCst).wrapping_add(1),
-            registry: self.origin.registry().changes(),
-        };
-        let gone = match shown_of(alloc, serving, registry, &self.loads, version, &self.origin) {
-            Ok(shown) => Some(self.swap(rt, KeptShown::new(shown, ready))),
-            Err(_) => None,
+        let kept = self.kept_of(rt, alloc, serving, ready);
+        self.lanes.begin_filling();
+        let is_filled = kept.is_some();
+        let gone = match kept {
+            Some(kept) => {
+                self.note_members(rt, &kept, serving);
+                self.spread(&kept);
+                Some(self.swap(rt, kept))
+            }
+            None => None,
         };
         self.changes.fetch_add(1, SeqCst);
         self.note_generation(serving);
+        self.lanes.end_filling(is_filled);
         gone
     }
 

@@ -109,6 +109,43 @@ impl<
         Some(cell)
     }
 
+    // Has the words that are kept say of each member whether it is enabled, and whether its cell is healthy. It is for the thread that
+    // serves them then, so that requests needn't ask. The caller has the lock of what is served.
+    pub(crate) fn note_members<W: Wait>(
+        &self,
+        rt: &W,
+        kept: &KeptShown<S, D, R, C>,
+        serving: &Serving<S>,
+    )
+        requires kept { IsKept R.gives self.now kept.now.shown kept.now.ready }
+        requires served { IsServedBy self.now serving.now.served }
+    {
+        for mark in kept.marks() {
+            if let Some(backend) = mark {
+                self.note_member(rt, kept, serving, backend);
+            }
+        }
+    }
+
+    // Has the words that are kept say it of one member.
+    fn note_member<W: Wait>(
+        &self,
+        rt: &W,
+        kept: &KeptShown<S, D, R, C>,
+        serving: &Serving<S>,
+        backend: &Backend,
+    )
+        requires kept { IsKept R.gives self.now kept.now.shown kept.now.ready }
+        requires served { IsServedBy self.now serving.now.served }
+    {
+        let registries = self.origin.registry();
+        let cells = take_registry(registries, rt);
+        if let Some(cell) = self.note_flag(kept, serving, backend) {
+            kept.note_health(cell, cells.value.cell_ready(cell));
+        }
+        put_registry(registries, cells);
+    }
+
     // Whether a backend is ready for selections in what is kept, by its words. Where it has none, and another generation is served
     // meanwhile, whose view doesn't say it any more, it is as it was found last.
     pub(crate) fn judge<W: Wait>(
@@ -174,7 +211,7 @@ impl<
         Some(ready)
     }
 
-    // Judges each member that has no word yet. It is for the thread that updates or checks, so that requests seldom have to ask.
+    // Judges each member that has no word. It is for the thread that checks, so that requests seldom have to ask.
     pub(crate) fn judge_all<W: Wait>(&self, rt: &W) {
         let Ok(kept) = self.latest(rt) else {
             return;
@@ -188,8 +225,8 @@ impl<
 
     /// Returns whether a backend is ready in the newest membership, without taking memory.
     ///
-    /// It mostly takes no lock. It does before the first update and while one that another thread makes hasn't returned yet, where memory
-    /// for words was refused, and once the balancer left its registry.
+    /// It mostly takes no lock. It does before the first update, where memory for words was refused, and once the balancer left its
+    /// registry.
     pub(crate) fn ready<W: Wait>(&self, rt: &W, backend: &Backend) -> bool
         ensures { JudgedBy R.gives self.now backend.now result }
     {

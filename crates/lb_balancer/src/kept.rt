@@ -22,9 +22,14 @@ use lb_select_base::backend::Backend;
 use lb_select_base::refusal::Refusal;
 use lb_select_base::walk::BackendSelection;
 use lb_threads_core::flag_words::Flagged;
+use lb_threads_core::lane::Seen;
+use lb_threads_core::lanes::Side;
 use lb_threads_core::marks::spread_of;
 use std::alloc::{AllocError, Global};
 use std::sync::{Arc, Wait};
+
+// How often a request looks while readers are turned to the other side.
+const LOOKS: u32 = 200;
 
 /// What is shown, with words that say which of its members are ready now; without, where memory was refused for them.
 #[derive(Drop)]
@@ -135,6 +140,48 @@ impl<
     R: KeyRule + Drop,
     C: HealthCheck + Drop,
 > Balancing<S, D, R, C> {
+    // Reads what the hint's lane has, where that is of the generation that is served now.
+    fn seen_in_lane(&self, hint: u64) -> Option<Seen<'_, KeptShown<S, D, R, C>>>
+        ensures { IfSome result (λ s. s.hand.tag ≡ self.now) }
+    {
+        let side = self.lanes.side();
+        match self.seen_on(side, hint) {
+            Some(seen) => Some(seen),
+            None => self.seen_later(side, hint),
+        }
+    }
+
+    // Reads what the hint's lane of a side has, where that is of the generation that is served now.
+    #[inline]
+    fn seen_on(&self, side: Side, hint: u64) -> Option<Seen<'_, KeptShown<S, D, R, C>>>
+        ensures { IfSome result (λ s. s.hand.tag ≡ self.now) }
+    {
+        let _key = &self.origin;
+        let seen = self.lanes.read(side, hint, &self.origin)?;
+        let is_served = match seen.value() {
+            Some(kept) => self.is_served(kept.generation()),
+            None => false,
+        };
+        if is_served { Some(seen) } else { None }
+    }
+
+    // Reads what a lane has while readers are turned to the other side.
+    #[cold]
+    #[inline(never)]
+    fn seen_later(&self, before: Side, hint: u64) -> Option<Seen<'_, KeptShown<S, D, R, C>>>
+        ensures { IfSome result (λ s. s.hand.tag ≡ self.now) }
+    {
+        let mut side = before;
+        for _ in 0..LOOKS {
+            let (next, lane) = self.lanes.look_again(side, hint)?;
+            if let Some(seen) = self.seen_on(next, lane) {
+                return Some(seen);
+            }
+            side = next;
+        }
+        None
+    }
+
     // Selects in what the hint's lane has, where that is of the generation that is served now.
     pub(crate) fn select_in_lane<W: Wait, F: Fn(&Backend, bool) -> bool>(
         &self,
@@ -150,11 +197,8 @@ impl<
             × SelectsFrom R.gives self.now (AcceptsBy F.Fn accept.now) max_iterations S.walks key.now s r)) }
         ensures refused { IfSome result (λ r. IfErr r (λ e. e ≡ Refusal.OutOfMemory)) }
     {
-        let seen = self.lanes.read(hint, &self.origin)?;
+        let seen = self.seen_in_lane(hint)?;
         let kept = seen.value()?;
-        if !self.is_served(kept.generation()) {
-            return None;
-        }
         let generator = self.lanes.generator(hint);
         match self.find_kept(rt, alloc, kept, generator, key, max_iterations, accept) {
             Ok(Some(found)) => {
@@ -173,11 +217,8 @@ impl<
     pub(crate) fn ready_in_lane(&self, backend: &Backend) -> Option<bool>
         ensures { IfSome result (JudgedBy R.gives self.now backend.now) }
     {
-        let seen = self.lanes.read(1, &self.origin)?;
+        let seen = self.seen_in_lane(1)?;
         let kept = seen.value()?;
-        if !self.is_served(kept.generation()) {
-            return None;
-        }
         if !self.is_registered() {
             return None;
         }
@@ -204,20 +245,34 @@ impl<
         requires { IsKept R.gives self.now kept.shown kept.ready }
     {
         let generation = kept.generation();
-        let unneeded = self.lanes.renew(hint, kept, &self.origin);
-        drop(unneeded);
+        let side = self.lanes.side();
+        drop(self.lanes.renew(side, hint, kept, &self.origin));
         if !self.is_served(generation) {
-            drop(self.lanes.clear(hint, &self.origin));
+            drop(self.lanes.clear(side, hint, &self.origin));
         }
     }
 
-    // Gives each lane what was shown last. A lane that is read is emptied by its last reader, and gets it after all others.
-    pub(crate) fn spread<W: Wait>(&self, rt: &W) {
+    // Gives each lane of the side that readers don't use what is to be served.
+    pub(crate) fn spread(&self, kept: &KeptShown<S, D, R, C>)
+        requires { IsKept R.gives self.now kept.now.shown kept.now.ready }
+    {
+        let _key = &self.origin;
+        let side = self.lanes.side().other();
         for lane in 0..self.lanes.count() {
-            self.give_latest(rt, lane as u64);
+            if let Ok(kept) = kept.try_clone() {
+                drop(self.lanes.renew(side, lane as u64, kept, &self.origin));
+            }
         }
+    }
+
+    // Empties the lanes of the side that readers don't use, and gives each free one of theirs what was shown last. It is for the thread
+    // that updates.
+    pub(crate) fn tidy_lanes<W: Wait>(&self, rt: &W) {
+        let _key = &self.origin;
+        let side = self.lanes.side();
         for lane in 0..self.lanes.count() {
-            if self.lanes.is_free(lane as u64) {
+            drop(self.lanes.clear(side.other(), lane as u64, &self.origin));
+            if self.lanes.is_free(side, lane as u64) {
                 self.give_latest(rt, lane as u64);
             }
         }
@@ -225,9 +280,8 @@ impl<
 
     // Gives a lane what was shown last.
     fn give_latest<W: Wait>(&self, rt: &W, lane: u64) {
-        match self.latest(rt) {
-            Ok(kept) => self.refill(lane, kept),
-            Err(_) => drop(self.lanes.clear(lane, &self.origin)),
+        if let Ok(kept) = self.latest(rt) {
+            self.refill(lane, kept);
         }
     }
 }

@@ -236,9 +236,9 @@ impl<
     /// looked at. It is `None` too where no such slot is there.
     ///
     /// A reader enters the slot for it. Then it leaves, or a lane of the slot keeps it for the selections that follow, in a cancelled group
-    /// too. They take no lock but for a candidate that has no word: where memory for words was refused, or no place was left for its own.
-    /// The worker that publishes empties the slot's lanes, so that no lane keeps a retired selector once the selections in it have ended,
-    /// and fills them.
+    /// too. They take no lock but before the slot's first publication, and where memory for words was refused. The worker that publishes
+    /// fills lanes with readers of what it published, and empties those that had others. One that is read is emptied once that selection
+    /// has ended, by the worker, which it wakes then, or by the next call that takes out what is retired.
     ///
     /// # Errors
     ///

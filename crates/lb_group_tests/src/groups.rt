@@ -65,10 +65,11 @@ enum OfGroups {
     ClockGoesBack,
     CancelledWhileRead,
     ReadyWhileBehind,
+    RetiredWhileSelected,
     TicketsOfEach,
 }
 
-const ROWS: [Row; 18] = [
+const ROWS: [Row; 19] = [
     Row::OfHandle(OfHandle::WithoutWorkers),
     Row::OfHandle(OfHandle::WithWorkers),
     Row::OfHandle(OfHandle::StartsButOne),
@@ -86,6 +87,7 @@ const ROWS: [Row; 18] = [
     Row::OfGroups(OfGroups::ClockGoesBack),
     Row::OfGroups(OfGroups::CancelledWhileRead),
     Row::OfGroups(OfGroups::ReadyWhileBehind),
+    Row::OfGroups(OfGroups::RetiredWhileSelected),
     Row::OfGroups(OfGroups::TicketsOfEach),
 ];
 
@@ -154,6 +156,7 @@ fn play_groups<
             staying::cancelled_while_read(rt, alloc, first, registry)
         }
         OfGroups::ReadyWhileBehind => staying::ready_while_behind(rt, alloc, first, registry),
+        OfGroups::RetiredWhileSelected => staying::retired_while_selected(rt, alloc, first),
         OfGroups::TicketsOfEach => tickets::tickets_of_each(rt, alloc, first),
     }
 }

@@ -17,6 +17,8 @@ mod ends;
 #[cfg(test)]
 mod locks;
 #[cfg(test)]
+mod places;
+#[cfg(test)]
 mod registries;
 #[cfg(test)]
 mod service_fixtures;

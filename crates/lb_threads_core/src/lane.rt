@@ -1,5 +1,5 @@
 //! One lane: a value that threads read in place, with a word that counts them. A thread that renews a lane which is read marks it: no new
-//! reader comes then, and the last one empties it.
+//! reader comes then, and the last one empties it, or leaves that to `sweep`.
 ghost use Rattle.std.specs.Prelude.{◌≡◌, ◌%◌, ◌<◌, IfSome};
 ghost use Rattle.counted_slot.specs.Counting.{readers};
 
@@ -84,6 +84,17 @@ impl<X: Fits + Drop> Lane<X> {
         state_of(word) == FREE && reader_count(word) == 0
     }
 
+    // Empties a marked lane that no thread reads any more, and returns what was there.
+    pub(crate) fn sweep(&self) -> Option<X>
+        ensures { IfSome result (X.fits self.now.slot) }
+    {
+        let word = self.slot.load();
+        if state_of(word) == MARKED && reader_count(word) == 0 {
+            return empty(&self.slot, word);
+        }
+        None
+    }
+
     // Exchanges what is there for this, under the state `next`, where no thread reads it, and returns what was there. A lane that is read
     // is marked, and one that another thread has taken is left to it: then this value is returned.
     pub(crate) fn exchange(&self, value: Option<X>, next: u64) -> Option<X>
@@ -142,6 +153,13 @@ impl<'a, X: Fits + Drop> Seen<'a, X> {
             Some(value) => Some(value),
             None => None,
         }
+    }
+
+    /// Ends the reading, and returns whether this was the last reader of a marked lane, which keeps its value then until it is swept.
+    pub fn end(self) -> bool {
+        let Self { slot: _, hand } = self;
+        let word = hand.leave();
+        state_of(word) == MARKED && reader_count(word) == 1
     }
 
     /// Ends the reading, and returns the value where this was the last reader of a marked lane, which is empty then.

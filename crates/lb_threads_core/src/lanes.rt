@@ -1,4 +1,5 @@
-//! Lanes of one owner, which it fills with what it serves. All have the owner's key, which each value fits.
+//! Lanes of one owner on two sides: threads read those of one, while the owner fills those of the other with what it serves next. All have
+//! the owner's key, which each value fits.
 ghost use Rattle.std.specs.Prelude.{◌≡◌, All, IfOk, IfSome, vec_len};
 
 use crate::generators::SharedGenerator;
@@ -6,18 +7,54 @@ use crate::lane::{Lane, Seen};
 use crate::marks::SPREAD;
 use counted_slot::{FREE, Fits, PRESENT};
 use std::alloc::{AllocError, Global};
+use std::hint::spin_loop;
+use std::sync::atomic::AtomicU64;
+use std::sync::atomic::Ordering::SeqCst;
 
 // How many lanes a reader tries.
 const TRIES: u64 = 4;
 
+// In how many lanes readers look while they are filled.
+const FILLED_FIRST: u64 = 8;
+
 /// Lanes that threads share. Contracts see the key of each as its `slot`.
 #[derive(Drop)]
 pub struct Lanes<X: Fits + Drop> {
+    // Those of one side have the even places, and those of the other the odd ones.
     pub(crate) lanes: Vec<Lane<X>>,
+    // How often the owner began to fill a side, and how often it ended: odd while it fills one, and two more for each turn.
+    turns: AtomicU64,
+}
+
+/// The side of lanes that readers used at some moment, or the other one.
+#[derive(Clone, Copy)]
+pub struct Side {
+    turns: u64,
+}
+
+impl Side {
+    // What the places of its lanes leave as remainder by 2.
+    #[inline]
+    fn parity(self) -> u64 {
+        self.turns / 2 % 2
+    }
+
+    // Whether the other side was being filled.
+    fn is_filling(self) -> bool {
+        self.turns % 2 == 1
+    }
+
+    /// Returns the other side.
+    pub fn other(self) -> Side {
+        Side {
+            turns: self.turns.wrapping_add(2),
+        }
+    }
 }
 
 impl<X: Fits + Drop> Lanes<X> {
-    /// Returns so many empty lanes, best a power of two: of another number some serve no hint. The words of `seeds` seed their generators.
+    /// Returns so many empty lanes, half of them on each side; best a power of two: of another number some serve no hint. The words of
+    /// `seeds` seed their generators.
     ///
     /// Refused where memory is refused.
     pub fn new(
@@ -33,41 +70,80 @@ impl<X: Fits + Drop> Lanes<X> {
         for _ in 0..count {
             lanes.push(Lane::new(key, seeds.random()))?;
         }
-        Ok(Lanes { lanes })
+        let turns = AtomicU64::new(0);
+        Ok(Lanes { lanes, turns })
     }
 
-    // Where the lane of a hint is.
-    fn place(&self, hint: u64) -> usize {
-        hint as usize & self.lanes.len().wrapping_sub(1)
+    /// Returns the side that readers use.
+    #[inline]
+    pub fn side(&self) -> Side {
+        Side {
+            turns: self.turns.load(SeqCst),
+        }
     }
 
-    // The lane of a hint, which has the key of all.
-    fn lane<'a>(&'a self, hint: u64, key: &X::Tag) -> Option<&'a Lane<X>>
+    /// Returns where a reader looks again that found nothing on a side: on the one that readers use now, or in one of the other's first
+    /// lanes, which are filled first, while they are filled. `None` where readers weren't turned since, and aren't now.
+    pub fn look_again(&self, before: Side, hint: u64) -> Option<(Side, u64)> {
+        let side = self.side();
+        if side.is_filling() {
+            spin_loop();
+            return Some((side.other(), hint % FILLED_FIRST));
+        }
+        if side.turns == before.turns {
+            return None;
+        }
+        Some((side, hint))
+    }
+
+    /// Begins to fill the side that readers don't use: who finds nothing on theirs looks again. One thread at a time fills, the first lanes
+    /// first.
+    pub fn begin_filling(&self) {
+        self.turns.fetch_add(1, SeqCst);
+    }
+
+    /// Ends what `begin_filling` began, and turns readers to the other side where that is filled.
+    pub fn end_filling(&self, is_filled: bool) {
+        // Four steps make two turns, so that the side is the same.
+        let steps = if is_filled { 1 } else { 3 };
+        self.turns.fetch_add(steps, SeqCst);
+    }
+
+    // Where the lane of a hint is on a side.
+    #[inline]
+    fn place(&self, side: Side, hint: u64) -> usize {
+        let place = hint.wrapping_mul(2) | side.parity();
+        place as usize & self.lanes.len().wrapping_sub(1)
+    }
+
+    // The lane of a hint on a side, which has the key of all.
+    #[inline]
+    fn lane<'a>(&'a self, side: Side, hint: u64, key: &X::Tag) -> Option<&'a Lane<X>>
         requires { All (λ lane. lane.slot ≡ key.now) self.now.lanes.items }
         ensures { IfSome result (λ l. l.now.slot ≡ key.now) }
     {
         let _ = key;
-        self.lanes.get(self.place(hint))
+        self.lanes.get(self.place(side, hint))
     }
 
     /// Returns the random words of the hint's lane, or `None` without lanes.
     #[inline]
     pub fn generator(&self, hint: u64) -> Option<&SharedGenerator> {
-        match self.lanes.get(self.place(hint)) {
+        match self.lanes.get(self.place(self.side(), hint)) {
             Some(lane) => Some(lane.generator()),
             None => None,
         }
     }
 
-    /// Reads what the hint's lane has, or else what one of the next three has.
+    /// Reads what the hint's lane of a side has, or else what one of the next three has.
     ///
     /// `None` where all four are free, marked, or just taken.
-    pub fn read<'a>(&'a self, hint: u64, key: &X::Tag) -> Option<Seen<'a, X>>
+    pub fn read<'a>(&'a self, side: Side, hint: u64, key: &X::Tag) -> Option<Seen<'a, X>>
         requires { All (λ lane. lane.slot ≡ key.now) self.now.lanes.items }
         ensures { IfSome result (λ s. s.hand.tag ≡ key.now) }
     {
         for step in 0..TRIES {
-            let lane = self.lane(hint.wrapping_add(step), key)?;
+            let lane = self.lane(side, hint.wrapping_add(step), key)?;
             if let Some(seen) = lane.read() {
                 return Some(seen);
             }
@@ -75,47 +151,56 @@ impl<X: Fits + Drop> Lanes<X> {
         None
     }
 
-    /// Returns whether the hint's lane has nothing, and no thread reads it.
-    pub fn is_free(&self, hint: u64) -> bool {
-        match self.lanes.get(self.place(hint)) {
-            Some(lane) => lane.is_free(),
-            None => false,
-        }
-    }
-
-    /// Gives the hint's lane this value, and returns what isn't needed: the value that was there, or this one where the lane is read or
-    /// taken.
+    /// Gives the hint's lane of a side this value, and returns what isn't needed: the value that was there, or this one where the lane is
+    /// read or taken.
     ///
-    /// A lane that is read is marked, so that its last reader empties it.
-    pub fn renew(&self, hint: u64, value: X, key: &X::Tag) -> Option<X>
+    /// A lane that is read is marked, so that no new reader comes.
+    pub fn renew(&self, side: Side, hint: u64, value: X, key: &X::Tag) -> Option<X>
         requires keyed { All (λ lane. lane.slot ≡ key.now) self.now.lanes.items }
         requires fits { X.fits key.now value }
         ensures { IfSome result (X.fits key.now) }
     {
-        match self.lane(hint, key) {
+        match self.lane(side, hint, key) {
             Some(lane) => lane.exchange(Some(value), PRESENT),
             None => Some(value),
         }
     }
 
-    /// Empties the hint's lane, and returns what was there.
+    /// Empties the hint's lane of a side, and returns what was there.
     ///
-    /// Where the lane is read, its last reader empties it.
-    pub fn clear(&self, hint: u64, key: &X::Tag) -> Option<X>
+    /// A lane that is read is marked, so that no new reader comes: its last reader, or `sweep`, empties it.
+    pub fn clear(&self, side: Side, hint: u64, key: &X::Tag) -> Option<X>
         requires { All (λ lane. lane.slot ≡ key.now) self.now.lanes.items }
         ensures { IfSome result (X.fits key.now) }
     {
-        match self.lane(hint, key) {
+        match self.lane(side, hint, key) {
             Some(lane) => lane.exchange(None, FREE),
             None => None,
         }
     }
 
-    /// Returns how many lanes there are.
-    pub fn count(&self) -> usize
-        ensures { result ≡ vec_len self.now.lanes }
+    /// Empties the hint's lane of a side where that is marked and isn't read any more, and returns what was there.
+    pub fn sweep(&self, side: Side, hint: u64, key: &X::Tag) -> Option<X>
+        requires { All (λ lane. lane.slot ≡ key.now) self.now.lanes.items }
+        ensures { IfSome result (X.fits key.now) }
     {
-        self.lanes.len()
+        match self.lane(side, hint, key) {
+            Some(lane) => lane.sweep(),
+            None => None,
+        }
+    }
+
+    /// Returns whether the hint's lane of a side has nothing, and no thread reads it.
+    pub fn is_free(&self, side: Side, hint: u64) -> bool {
+        match self.lanes.get(self.place(side, hint)) {
+            Some(lane) => lane.is_free(),
+            None => false,
+        }
+    }
+
+    /// Returns how many lanes each side has.
+    pub fn count(&self) -> usize {
+        self.lanes.len() / 2
     }
 }
 

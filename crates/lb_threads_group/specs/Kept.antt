@@ -38,8 +38,8 @@ module _ {C R : Type 0} (gives : R → Member → Member → Type 0) (accepts : 
       site
 
   -- A selection: a reader entered the slot, readiness was read for it, and it left or is kept in a lane, each at some state of the group.
-  -- The worker that publishes empties the lanes of its slot, so that a reader which is kept leaves then, or when the last selection in its
-  -- lane ends.
+  -- The worker that publishes fills other lanes of its slot, and empties these, so that a reader which is kept leaves then, or, where its
+  -- lane is read, when what is retired is taken out after that.
   abbrev pub SelectedFrom : ℕ → Result (Option Member) Refusal → Type 0
   SelectedFrom slot o =
       SelectedThrough accepts limit (λ v r d w. w ≡ v) (λ v r b a w. ReadyUnder gives v r b a × (w ≡ v))

@@ -377,12 +377,19 @@ impl<S: BackendSelection, R: KeyRule + Drop, C: HealthCheck + Drop> SharedGroup<
         drop((members, unneeded));
     }
 
-    // Has the words of a generation that was built for a slot say which of its backends are ready. It is for the thread that publishes it
-    // then, so that requests needn't ask.
-    pub(crate) fn note_built<W: Wait>(&self, rt: &W, slot: usize, generation: u64) {
-        if let Some(found) = self.found_for(rt, slot, generation) {
-            self.note_members(rt, &*found);
-        }
+    // Returns the words of a generation that was built for a slot, which say now which of its backends are ready. It is for the thread that
+    // publishes it then, so that requests needn't ask.
+    pub(crate) fn note_built<W: Wait>(
+        &self,
+        rt: &W,
+        slot: usize,
+        generation: u64,
+    ) -> Option<Arc<Found<S, R, C>>>
+        ensures { IsFoundOf self.now result }
+    {
+        let found = self.found_for(rt, slot, generation)?;
+        self.note_members(rt, &*found);
+        Some(found)
     }
 
     // Words for readers of a generation with these members.
@@ -512,6 +519,18 @@ fn newest_members<S: BackendSelection>(
         group.get_backend().ok()
     } else {
         None
+    }
+}
+
+// The words once more, where there are any.
+pub(crate) fn again<S: BackendSelection, R: KeyRule + Drop, C>(
+    found: &Option<Arc<Found<S, R, C>>>,
+) -> Option<Arc<Found<S, R, C>>>
+    ensures { (site : SharedValue S.Config R) → IsFoundOf site found.now → IsFoundOf site result }
+{
+    match found {
+        Some(found) => Arc::try_clone(found).ok(),
+        None => None,
     }
 }
 

@@ -42,11 +42,12 @@ use std::sync::atomic::Ordering::SeqCst;
 use std::sync::atomic::{AtomicBool, AtomicU64};
 use std::sync::{Arc, Mutex, Wait};
 
-// The number of lanes of a slot, a power of two: many more than the threads that select at once, so that few meet in one.
-const LANES: usize = 128;
+// The number of lanes of a slot, a power of two, half of them on each side: many more than the threads that select at once, so that few
+// meet in one.
+const LANES: usize = 256;
 
 // The number of lanes of the newest membership's words.
-const NEWEST_LANES: usize = 16;
+const NEWEST_LANES: usize = 32;
 
 /// The group under the lock is the one that the lock was made with, on the same board: its identity, its gate, its registry and its
 /// configurations stay.

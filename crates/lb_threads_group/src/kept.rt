@@ -18,11 +18,14 @@ use lb_rebuild_core::retired::Reader;
 use lb_select_base::refusal::Refusal;
 use lb_select_base::walk::BackendSelection;
 use lb_threads_core::lane::Seen;
-use lb_threads_core::lanes::Lanes;
+use lb_threads_core::lanes::{Lanes, Side};
 use lb_threads_core::registry::HealthRegistry;
 use std::marker::Model;
 use std::snapshot::Snapshot;
 use std::sync::{Arc, Wait};
+
+// How often a request looks while a publication fills the lanes.
+const LOOKS: u32 = 200;
 
 /// Which group and which registry the readers of lanes are of. It has no bytes.
 ///
@@ -73,7 +76,7 @@ impl<S: BackendSelection, R: KeyRule + Drop, C> Fits for Entry<S, R, C> {
 
 impl<S: BackendSelection, R: KeyRule + Drop, C> Entry<S, R, C> {
     // Its reader.
-    fn into_reader(self) -> Reader<S>
+    pub(crate) fn into_reader(self) -> Reader<S>
         ensures { result ≡ self.reader }
     {
         let Self {
@@ -109,7 +112,7 @@ impl<S: BackendSelection, R: KeyRule + Drop, C> Drop for Entry<S, R, C> {
 
 impl<S: BackendSelection, R: KeyRule + Drop, C: HealthCheck + Drop> SharedGroup<S, R, C> {
     // The lanes of a slot.
-    fn lanes_of(&self, slot: usize) -> Option<&SlotLanes<S, R, C>>
+    pub(crate) fn lanes_of(&self, slot: usize) -> Option<&SlotLanes<S, R, C>>
         ensures { IfSome result (λ l. All (λ lane. lane.slot ≡ self.now) l.now.lanes.items) }
     {
         let _site = &self.site;
@@ -125,16 +128,35 @@ impl<S: BackendSelection, R: KeyRule + Drop, C: HealthCheck + Drop> SharedGroup<
     }
 
     // Reads what the hint's lane of a slot has, if it is of what the slot serves now.
-    pub(crate) fn seen_in_lane<'g, W: Wait>(
+    pub(crate) fn seen_in_lane<'g>(
         &'g self,
-        rt: &W,
         slot: usize,
         hint: u64,
     ) -> Option<Seen<'g, Entry<S, R, C>>>
         ensures { IfSome result (λ s. s.hand.tag ≡ self.now) }
     {
         let lanes = self.lanes_of(slot)?;
-        let seen = lanes.read(hint, &self.site)?;
+        let side = lanes.side();
+        match self.seen_on(lanes, side, slot, hint) {
+            Some(seen) => Some(seen),
+            None => self.seen_later(lanes, side, slot, hint),
+        }
+    }
+
+    // Reads what the hint's lane of a side has, if it is of what the slot serves now.
+    #[inline]
+    fn seen_on<'g>(
+        &'g self,
+        lanes: &'g SlotLanes<S, R, C>,
+        side: Side,
+        slot: usize,
+        hint: u64,
+    ) -> Option<Seen<'g, Entry<S, R, C>>>
+        requires { All (λ lane. lane.slot ≡ self.now) lanes.now.lanes.items }
+        ensures { IfSome result (λ s. s.hand.tag ≡ self.now) }
+    {
+        let _site = &self.site;
+        let seen = lanes.read(side, hint, &self.site)?;
         let is_present = match seen.value() {
             Some(entry) => entry.slot == slot && self.is_present(entry, slot),
             None => false,
@@ -142,16 +164,39 @@ impl<S: BackendSelection, R: KeyRule + Drop, C: HealthCheck + Drop> SharedGroup<
         if is_present {
             return Some(seen);
         }
-        self.end_reading(rt, seen);
+        self.end_reading(seen);
         None
     }
 
-    // Ends the reading of a lane. Its last reader leaves the selector where the lane was marked.
-    pub(crate) fn end_reading<W: Wait>(&self, rt: &W, seen: Seen<'_, Entry<S, R, C>>)
-        requires { seen.hand.tag ≡ self.now }
+    // Reads what the hint's lane has once requests were turned to it, or another one while a publication fills them, which takes some
+    // microseconds.
+    #[cold]
+    #[inline(never)]
+    fn seen_later<'g>(
+        &'g self,
+        lanes: &'g SlotLanes<S, R, C>,
+        before: Side,
+        slot: usize,
+        hint: u64,
+    ) -> Option<Seen<'g, Entry<S, R, C>>>
+        requires { All (λ lane. lane.slot ≡ self.now) lanes.now.lanes.items }
+        ensures { IfSome result (λ s. s.hand.tag ≡ self.now) }
     {
-        if let Some(entry) = seen.leave() {
-            self.leave_entry(rt, entry);
+        let mut side = before;
+        for _ in 0..LOOKS {
+            let (next, lane) = lanes.look_again(side, hint)?;
+            if let Some(seen) = self.seen_on(lanes, next, slot, lane) {
+                return Some(seen);
+            }
+            side = next;
+        }
+        None
+    }
+
+    // Ends the reading of a lane. The last reader of one that was marked wakes the workers, one of which empties it.
+    pub(crate) fn end_reading(&self, seen: Seen<'_, Entry<S, R, C>>) {
+        if seen.end() {
+            self.wakes().wake();
         }
     }
 
@@ -202,47 +247,24 @@ impl<S: BackendSelection, R: KeyRule + Drop, C: HealthCheck + Drop> SharedGroup<
             self.leave_entry(rt, entry);
             return;
         }
-        if let Some(unneeded) = lanes.renew(hint, entry, &self.site) {
+        let side = lanes.side();
+        if let Some(unneeded) = lanes.renew(side, hint, entry, &self.site) {
             self.leave_entry(rt, unneeded);
         }
         let mut pass = self.board.pass();
         if self.board.selector_generation_as(slot, &mut pass) != Some(generation)
             || !self.is_open()
         {
-            self.clear_lane(rt, lanes, hint);
+            self.clear_lane(rt, lanes, side, hint);
         }
     }
 
-    // Empties a lane, and leaves the selector that its reader was in; where it is read, its last reader does.
-    fn clear_lane<W: Wait>(&self, rt: &W, lanes: &SlotLanes<S, R, C>, hint: u64)
+    // Empties a lane, and leaves the selector that its reader was in; where it is read, a worker does once it isn't.
+    fn clear_lane<W: Wait>(&self, rt: &W, lanes: &SlotLanes<S, R, C>, side: Side, hint: u64)
         requires { All (λ lane. lane.slot ≡ self.now) lanes.now.lanes.items }
     {
-        if let Some(entry) = lanes.clear(hint, &self.site) {
+        if let Some(entry) = lanes.clear(side, hint, &self.site) {
             self.leave_entry(rt, entry);
-        }
-    }
-
-    // Gives each lane of a slot a reader of what the slot serves now. It is for the thread that publishes, so that requests seldom have to
-    // enter. A lane that is read is emptied by its last reader, and gets its reader after all others.
-    pub(crate) fn fill_lanes<W: Wait>(&self, rt: &W, slot: usize) {
-        let Some(lanes) = self.lanes_of(slot) else {
-            return;
-        };
-        for lane in 0..lanes.count() {
-            self.clear_lane(rt, lanes, lane as u64);
-            self.fill_lane(rt, slot, lane as u64);
-        }
-        for lane in 0..lanes.count() {
-            if lanes.is_free(lane as u64) {
-                self.fill_lane(rt, slot, lane as u64);
-            }
-        }
-    }
-
-    // Gives a lane of a slot a reader of what the slot serves now.
-    fn fill_lane<W: Wait>(&self, rt: &W, slot: usize, lane: u64) {
-        if let Ok(entry) = self.enter_lane(rt, slot) {
-            self.keep(rt, lane, entry);
         }
     }
 }

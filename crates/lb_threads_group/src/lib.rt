@@ -3,6 +3,7 @@
 #![tactic(auto)]
 
 mod backends;
+mod filling;
 pub mod found;
 pub mod group;
 pub mod kept;

@@ -71,7 +71,8 @@ impl<S: BackendSelection, R: KeyRule + Drop, C: HealthCheck + Drop> SharedGroup<
         ensures { IfSome result (NewestReadyUnder R.gives self.now backend.now) }
     {
         let _site = &self.site;
-        let seen = self.newest.read(spread_of(backend) >> 56, &self.site)?;
+        let lane = spread_of(backend) >> 56;
+        let seen = self.newest.read(self.newest.side(), lane, &self.site)?;
         let newest = self.newest_in(&seen)?;
         if self.is_open() && self.noted_newest() == Some(newest.generation()) {
             newest.ready(backend)
@@ -146,16 +147,23 @@ impl<S: BackendSelection, R: KeyRule + Drop, C: HealthCheck + Drop> SharedGroup<
         self.lock.put(held);
     }
 
-    // Gives each lane these members and their words.
+    // Turns `ready` to lanes that have these members and their words, and empties the others.
     fn fill_newest(&self, members: &Arc<BTreeSet<Backend>>, found: &Arc<Found<S, R, C>>)
         requires { AreNewest self.now (arc_value found.now) (arc_value members.now).keys }
     {
         let _site = &self.site;
-        for lane in 0..self.newest.count() {
+        let lanes = &self.newest;
+        lanes.begin_filling();
+        let before = lanes.side();
+        for lane in 0..lanes.count() {
             if let (Ok(members), Ok(found)) = (Arc::try_clone(members), Arc::try_clone(found)) {
                 let newest = Newest { members, found };
-                drop(self.newest.renew(lane as u64, newest, &self.site));
+                drop(lanes.renew(before.other(), lane as u64, newest, &self.site));
             }
+        }
+        lanes.end_filling(true);
+        for lane in 0..lanes.count() {
+            drop(lanes.clear(before, lane as u64, &self.site));
         }
     }
 }

@@ -237,13 +237,14 @@ impl<
         let _gate = &group.gate;
         let slot = built.slot();
         let generation = built.generation();
-        group.note_built(self.rt, slot, generation);
+        let found = group.note_built(self.rt, slot, generation);
         let mut held = group.lock.take(self.rt);
         held.value.founded();
+        group.begin_filling(slot);
         let told = held.value.publish(built);
         group.note_slot(&held.value, slot);
+        group.fill_lanes(&mut held.value, slot, generation, &found);
         group.lock.put(held);
-        group.fill_lanes(self.rt, slot);
         match told {
             Ok(told) => told,
             Err(built) => {
@@ -285,6 +286,7 @@ impl<'g, 'r, 'f, S: BackendSelection, R: KeyRule + Drop, C: HealthCheck + Drop, 
         let group = self.group;
         let _gate = &group.gate;
         let mut held = group.lock.take(self.rt);
+        group.sweep_lanes(&mut held.value, slot);
         held.value.founded();
         let told = held.value.take_retired(slot);
         group.await_readers(slot, readers_left(&told));

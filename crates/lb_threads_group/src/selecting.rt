@@ -28,9 +28,9 @@ impl<S: BackendSelection, R: KeyRule + Drop, C: HealthCheck + Drop> SharedGroup<
     /// looked at. It is `None` too where no such slot is there.
     ///
     /// A reader enters the slot for it. Then it leaves, or a lane of the slot keeps it for the selections that follow, in a cancelled group
-    /// too. They take no lock but for a candidate that has no word, where memory for words was refused or no place was left for its own,
-    /// and once `let_go` was called. The worker that publishes empties the slot's lanes, so that no lane keeps a retired selector once the
-    /// selections in it have ended, and fills them.
+    /// too. They take no lock but before the slot's first publication, where memory for words was refused, and once `let_go` was called.
+    /// The worker that publishes fills lanes with readers of what it published, and empties those that had others. One that is read is
+    /// emptied once that selection has ended, by the worker, which it wakes then, or by the next call that takes out what is retired.
     ///
     /// # Errors
     ///
@@ -72,26 +72,26 @@ impl<S: BackendSelection, R: KeyRule + Drop, C: HealthCheck + Drop> SharedGroup<
         ensures { SelectedFrom R.gives (λ b ready a. Answers F.Fn accept.now b ready a) max_iterations S.walks key.now self.now slot
             result }
     {
-        let Some(seen) = self.seen_in_lane(rt, slot, lane) else {
+        let Some(seen) = self.seen_in_lane(slot, lane) else {
             return self.select_entering(rt, alloc, slot, lane, key, max_iterations, accept);
         };
         let Some(entry) = self.entry_of(&seen, slot) else {
-            self.end_reading(rt, seen);
+            self.end_reading(seen);
             return self.select_entering(rt, alloc, slot, lane, key, max_iterations, accept);
         };
         match self.find_as(rt, alloc, entry, lane, key, max_iterations, accept) {
             Ok(Some(found)) => {
                 // The step that ends the reading waits until the copy is written, so that is moved after it.
                 let copy = found.copied(alloc);
-                self.end_reading(rt, seen);
+                self.end_reading(seen);
                 Ok(Some(copy?))
             }
             Ok(None) => {
-                self.end_reading(rt, seen);
+                self.end_reading(seen);
                 Ok(None)
             }
             Err(refusal) => {
-                self.end_reading(rt, seen);
+                self.end_reading(seen);
                 Err(refusal)
             }
         }

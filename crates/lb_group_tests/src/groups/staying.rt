@@ -13,8 +13,8 @@ use std::alloc::Global;
 use std::collections::BTreeSet;
 use std::process::Abort;
 use std::sync::Wait;
-use std::sync::atomic::AtomicU64;
 use std::sync::atomic::Ordering::SeqCst;
+use std::sync::atomic::{AtomicBool, AtomicU64};
 use std::thread;
 use std::thread::{Threads, join};
 use std::time::{Clock, Duration};
@@ -124,6 +124,45 @@ pub fn cancelled_while_read<
         turn(rt, alloc, group, 0) == Turn::Cancelled,
     ];
     assert_eq!(rt; told, [true; 9]);
+}
+
+// Has slot 0 serve another generation; whether what it retires is still read.
+fn is_retired_read<S: BackendSelection, R: KeyRule + Drop, C: HealthCheck + Drop, W: Wait + Abort>(
+    rt: &W,
+    alloc: Global,
+    group: &SharedGroup<S, R, C>,
+) -> bool {
+    update(rt, alloc, group, 2);
+    let published = turn(rt, alloc, group, 0);
+    let read = destroyed(rt, group, 0);
+    published == Turn::Published(2) && read == Err(Refusal::StillRead(1))
+}
+
+/// A selection is in a lane while another generation is published: what it is in is retired and read until it has ended.
+pub fn retired_while_selected<
+    S: BackendSelection,
+    R: KeyRule + Drop,
+    C: HealthCheck + Drop,
+    W: Wait + Abort,
+>(rt: &W, alloc: Global, group: &SharedGroup<S, R, C>) {
+    update(rt, alloc, group, 1);
+    let published = turn(rt, alloc, group, 0);
+    let first = destroyed(rt, group, 0);
+    let was_read = AtomicBool::new(false);
+    let accept = |_backend: &Backend, _ready: bool| -> bool {
+        was_read.store(is_retired_read(rt, alloc, group), SeqCst);
+        true
+    };
+    let found = group.select_with(rt, alloc, 0, b"k", 4, &accept);
+    let found = found.expect(rt, "refused").map(|backend| backend.weight);
+    let told = [
+        published == Turn::Published(1),
+        first == Ok(()),
+        was_read.load(SeqCst),
+        found == Some(1),
+        destroyed(rt, group, 0) == Ok(()),
+    ];
+    assert_eq!(rt; told, [true; 5]);
 }
 
 // Whether two backends are ready in the newest membership, asked by a thread that holds the registry.

@@ -12,18 +12,8 @@ use Rattle.lb_balancer.proofs.balancing.Balancing.renew.Goals.{in-Ok, in-Err}
 pub put_registry-requires-clause-registry : goal.put_registry-requires-clause-registry
 put_registry-requires-clause-registry g c =
     let is = c.renew-unserved.ensures.view in
-    let now =
     later c.take_registry-cells.ensures.registry (renewed_later c.renew-unserved.result.1 c.take-held.result.value.served.view
     c.args.members.keys c.founded.ensures is.updated.registry is.updated.refusals.registry_err)
-    in
-    elim c.match-answer.branch [ in-Ok w ↦ rw w.cells-is now | in-Err w ↦ rw w.cells-is now ]
-
-pub exchange-unshown-requires-clause-registry : goal.exchange-unshown-requires-clause-registry
-exchange-unshown-requires-clause-registry g c =
-    let is = c.renew-unserved.ensures.view in
-    of-registry g.R.KeyRule.gives c.registry-registries.ensures c.self.view_is
-    (later c.take_registry-cells.ensures.registry (renewed_later c.renew-unserved.result.1 c.take-held.result.value.served.view
-    c.args.members.keys c.founded.ensures is.updated.registry is.updated.refusals.registry_err))
 
 pub exchange-unshown-requires-clause-served : goal.exchange-unshown-requires-clause-served
 exchange-unshown-requires-clause-served g c =

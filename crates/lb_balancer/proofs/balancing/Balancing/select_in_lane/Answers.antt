@@ -1,6 +1,5 @@
 -- The selection is one in what the lane has, which the balancer showed.
 use Rattle.std.specs.Prelude.{Ok, Some}
-use Rattle.std.proofs.Common.{◌∙◌}
 use Rattle.std.specs.Arc.{arc_value}
 use Rattle.lb_select_base.proofs.Copies.{copied_holds}
 use Rattle.lb_rebuild_core.specs.GroupCalls.{AcceptsBy}
@@ -17,7 +16,7 @@ returns-in-Ok-Some-clause-answers g c =
     let gives = g.R.KeyRule.gives in
     let b = c.args.self.now in
     let kept = c.in_ok-kept.kept.now in
-    let same = c.in_ok-seen.ensures ∙ c.self.view_is in
+    let same = c.in_ok-seen.ensures in
     let is = kept-of gives c.in_ok-seen.seen.hand.tag b kept.shown kept.ready same c.in_ok-kept.ensures in
     let Found : Type 0 = (x : ShownValue g.row.S-Config.Denot) × IsShownBy gives b x
     × SelectsFrom gives b (AcceptsBy g.F.Fn c.args.accept.now) c.args.max_iterations g.S.BackendSelection.walks c.args.key.now x
@@ -38,6 +37,6 @@ returns-in-Ok-None-clause-answers g c =
     let gives = g.R.KeyRule.gives in
     let b = c.args.self.now in
     let kept = c.in_ok-kept.kept.now in
-    let same = c.in_ok-seen.ensures ∙ c.self.view_is in
+    let same = c.in_ok-seen.ensures in
     let is = kept-of gives c.in_ok-seen.seen.hand.tag b kept.shown kept.ready same c.in_ok-kept.ensures in
     (arc_value kept.shown, is.0, rw (c.in-Ok-None.is, c.in-Ok-None.field-0-is) at c.find_kept.ensures.answers)
