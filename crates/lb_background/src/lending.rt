@@ -94,8 +94,8 @@ impl<'b, B: LendsToThreads> SharedBackends<'b, B> {
 
     /// Returns whether a backend is ready in the newest membership, without taking memory.
     ///
-    /// It mostly takes no lock. It does before the first update and while one that another thread makes hasn't returned yet, where memory
-    /// for words was refused, and once a group is cancelled or a balancer left its registry.
+    /// It takes no lock but before the first update, where memory for words was refused, once a group is cancelled or a balancer left its
+    /// registry, and where a thread that updates is stopped while it fills lanes.
     pub fn ready<W: Wait>(&self, rt: &W, backend: &Backend) -> bool
         ensures { B.judges self.now.lender.now backend.now result }
     {

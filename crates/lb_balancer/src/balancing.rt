@@ -421,12 +421,32 @@ impl<
         requires ready { IfSome ready (λ r. (arc_value r).balancer ≡ self.now) }
         ensures { IfSome result (λ k. IsKept R.gives self.now k.shown k.ready) }
     {
-        let registries = self.origin.registry();
-        let cells = take_registry(registries, rt);
         let version = Version {
             balancer: self.changes.load(SeqCst).wrapping_add(1),
-            registry: registries.changes(),
+            registry: self.origin.registry().changes(),
         };
+        match self.kept_at(rt, alloc, serving, version, ready) {
+            Ok(kept) => Some(kept),
+            Err(_) => None,
+        }
+    }
+
+    // What is served, at this version of it, with these words.
+    fn kept_at<W: Wait>(
+        &self,
+        rt: &W,
+        alloc: Global,
+        serving: &Serving<S>,
+        version: Version,
+        ready: Option<Arc<Readiness<S, D, R, C>>>,
+    ) -> Result<KeptShown<S, D, R, C>, Refusal>
+        requires served { IsServedBy self.now serving.now.served }
+        requires ready { IfSome ready (λ r. (arc_value r).balancer ≡ self.now) }
+        ensures kept { IfOk result (λ k. IsKept R.gives self.now k.shown k.ready) }
+        ensures refused { IfErr result (λ e. e ≡ Refusal.OutOfMemory) }
+    {
+        let registries = self.origin.registry();
+        let cells = take_registry(registries, rt);
         let told = shown_of(
             alloc,
             serving,
@@ -436,10 +456,7 @@ impl<
             &self.origin,
         );
         put_registry(registries, cells);
-        match told {
-            Ok(shown) => Some(KeptShown::new(shown, ready)),
-            Err(_) => None,
-        }
+        Ok(KeptShown::new(told?, ready))
     }
 
     // Shows what is served now, with these words: they say all first, and the lanes that readers don't use have it. Then it counts the
@@ -683,18 +700,7 @@ impl<
             let again = latest.try_clone()?;
             return Ok((again, latest));
         }
-        let registries = self.origin.registry();
-        let cells = take_registry(registries, rt);
-        let told = shown_of(
-            alloc,
-            serving,
-            &cells.value,
-            &self.loads,
-            version,
-            &self.origin,
-        );
-        put_registry(registries, cells);
-        let kept = KeptShown::new(told?, latest.ready);
+        let kept = self.kept_at(rt, alloc, serving, version, latest.ready)?;
         let again = kept.try_clone()?;
         Ok((again, self.swap(rt, kept)))
     }

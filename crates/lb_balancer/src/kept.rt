@@ -199,7 +199,7 @@ impl<
     {
         let seen = self.seen_in_lane(hint)?;
         let kept = seen.value()?;
-        let generator = self.lanes.generator(hint);
+        let generator = Some(seen.generator());
         match self.find_kept(rt, alloc, kept, generator, key, max_iterations, accept) {
             Ok(Some(found)) => {
                 // The step that ends the reading waits until the copy is written, so that is moved after it.

@@ -21,9 +21,9 @@ pub struct Lane<X: Fits + Drop> {
 
 /// A value that is read in its lane. It is neither dropped nor exchanged while this lives.
 pub struct Seen<'a, X: Fits + Drop> {
-    pub(crate) slot: &'a Counted<Option<X>>,
+    pub(crate) lane: &'a Lane<X>,
     pub hand: Claim<'a, Option<X>>,
-    ghost reads: { (hand.right ≡ 1) × (slot.now ≡ hand.tag) },
+    ghost reads: { (hand.right ≡ 1) × (lane.now.slot ≡ hand.tag) },
 }
 
 fn state_of(word: u64) -> u64
@@ -50,11 +50,6 @@ impl<X: Fits + Drop> Lane<X> {
         }
     }
 
-    // The random words of the lane.
-    pub(crate) fn generator(&self) -> &SharedGenerator {
-        &self.generator
-    }
-
     // Reads the value, where one is there and the lane isn't marked; `None` too where other readers come and go.
     //
     // At first it is taken to be there and unread, as it is mostly. A look before would fetch the word from other processors twice: once
@@ -69,8 +64,7 @@ impl<X: Fits + Drop> Lane<X> {
             }
             let (found, hand) = self.slot.turn(word, word + ONE_READER);
             if found == word {
-                let slot = &self.slot;
-                return Some(Seen { slot, hand });
+                return Some(Seen { lane: self, hand });
             }
             hand.done();
             word = found;
@@ -155,9 +149,15 @@ impl<'a, X: Fits + Drop> Seen<'a, X> {
         }
     }
 
+    /// Returns the random words of the lane.
+    #[inline]
+    pub fn generator(&self) -> &SharedGenerator {
+        &self.lane.generator
+    }
+
     /// Ends the reading, and returns whether this was the last reader of a marked lane, which keeps its value then until it is swept.
     pub fn end(self) -> bool {
-        let Self { slot: _, hand } = self;
+        let Self { lane: _, hand } = self;
         let word = hand.leave();
         state_of(word) == MARKED && reader_count(word) == 1
     }
@@ -166,10 +166,10 @@ impl<'a, X: Fits + Drop> Seen<'a, X> {
     pub fn leave(self) -> Option<X>
         ensures { IfSome result (X.fits self.entry.hand.tag) }
     {
-        let Self { slot, hand } = self;
+        let Self { lane, hand } = self;
         let word = hand.leave();
         if state_of(word) == MARKED && reader_count(word) == 1 {
-            return empty(slot, word - ONE_READER);
+            return empty(&lane.slot, word - ONE_READER);
         }
         None
     }

@@ -1,6 +1,6 @@
 //! Lanes of one owner on two sides: threads read those of one, while the owner fills those of the other with what it serves next. All have
 //! the owner's key, which each value fits.
-ghost use Rattle.std.specs.Prelude.{◌≡◌, All, IfOk, IfSome, vec_len};
+ghost use Rattle.std.specs.Prelude.{◌≡◌, ◌/◌, All, IfOk, IfSome, vec_len};
 
 use crate::generators::SharedGenerator;
 use crate::lane::{Lane, Seen};
@@ -126,15 +126,6 @@ impl<X: Fits + Drop> Lanes<X> {
         self.lanes.get(self.place(side, hint))
     }
 
-    /// Returns the random words of the hint's lane, or `None` without lanes.
-    #[inline]
-    pub fn generator(&self, hint: u64) -> Option<&SharedGenerator> {
-        match self.lanes.get(self.place(self.side(), hint)) {
-            Some(lane) => Some(lane.generator()),
-            None => None,
-        }
-    }
-
     /// Reads what the hint's lane of a side has, or else what one of the next three has.
     ///
     /// `None` where all four are free, marked, or just taken.
@@ -199,7 +190,9 @@ impl<X: Fits + Drop> Lanes<X> {
     }
 
     /// Returns how many lanes each side has.
-    pub fn count(&self) -> usize {
+    pub fn count(&self) -> usize
+        ensures { result ≡ vec_len self.now.lanes / 2 }
+    {
         self.lanes.len() / 2
     }
 }

@@ -421,9 +421,21 @@ impl<S: BackendSelection, R: KeyRule + Drop, C: HealthCheck + Drop> SharedGroup<
         let _gate = &self.gate;
         let held = self.lock.take(rt);
         held.value.founded();
-        let members = newest_members(held.value.core(), generation);
+        let members = self.newest_of(&held.value, generation);
         self.lock.put(held);
         members
+    }
+
+    // The newest members, where they are those of this generation. The caller has the group's lock.
+    pub(crate) fn newest_of(
+        &self,
+        group: &Watched<S>,
+        generation: u64,
+    ) -> Option<Arc<BTreeSet<Backend>>>
+        requires { IsState self.now.core group.now.core }
+        ensures { IfSome result (λ m. WereNewest self.now (arc_value m).keys) }
+    {
+        newest_members(group.core(), generation)
     }
 
     // Whether a backend is ready for a reader of the words' generation: as its word says, and where none does, as group and registry say.

@@ -98,8 +98,8 @@ pub struct SharedGroup<S: BackendSelection, R: KeyRule + Drop = Rule<NoRule>, C 
     // The words of each slot, and after them those of the newest membership, which have lanes of their own.
     pub(crate) words: Vec<WordsLock<S, R, C>>,
     pub(crate) newest: Lanes<Newest<S, R, C>>,
-    // Seeded the random words of the lanes.
-    generator: SharedGenerator,
+    // Seeded those of the lanes; its own words are for who reads no lane.
+    pub(crate) generator: SharedGenerator,
     // What readings load.
     pub(crate) numbers: GroupNumbers<S>,
 }
@@ -158,7 +158,8 @@ impl<S: BackendSelection, R: KeyRule + Drop, C> Model for SharedGroup<S, R, C> {
 impl<S: BackendSelection, R: KeyRule + Drop, C: HealthCheck + Drop> SharedGroup<S, R, C> {
     /// Returns this group, for threads, on a board of its own.
     ///
-    /// Random words are those of a generator for each lane, which this one seeds; passes draw those of the first lane. All loads are 0.
+    /// Each lane has random words of its own. Those of this generator seed them, and are for passes and for who enters under the lock. All
+    /// loads are 0.
     ///
     /// # Errors
     ///
@@ -355,9 +356,8 @@ impl<S: BackendSelection, R: KeyRule + Drop, C: HealthCheck + Drop> SharedGroup<
             last: 0,
         };
         let told = self.update_noting(rt, alloc, discovery, &mut noting);
-        if let Ok(generation) = told {
+        if told.is_ok() {
             *self.timing.lock(rt) = Some(noting.timings());
-            self.show_newest(rt, generation);
         }
         drop(turn);
         told
@@ -378,7 +378,7 @@ impl<S: BackendSelection, R: KeyRule + Drop, C: HealthCheck + Drop> SharedGroup<
             group: self,
             rt,
             found: self.no_words(),
-            lane: 0,
+            generator: &self.generator,
         };
         update_on(alloc, &mut port, discovery, noting)
     }
@@ -388,16 +388,6 @@ impl<S: BackendSelection, R: KeyRule + Drop, C: HealthCheck + Drop> SharedGroup<
     /// It doesn't wait for an update that is under way.
     pub fn last_update_timing<W: Wait>(&self, rt: &W) -> Option<UpdateTimings> {
         *self.timing.lock(rt)
-    }
-
-    // The next random word of a slot's lane.
-    #[inline]
-    pub(crate) fn random_of(&self, slot: usize, lane: u64) -> u64 {
-        let generator = match self.lanes.get(slot) {
-            Some(lanes) => lanes.generator(lane),
-            None => None,
-        };
-        generator.unwrap_or(&self.generator).random()
     }
 
     /// Sets the load of a backend's identity, for all slots.

@@ -24,8 +24,8 @@ use std::marker::Model;
 use std::snapshot::Snapshot;
 use std::sync::{Arc, Wait};
 
-// How often a request looks while a publication fills the lanes.
-const LOOKS: u32 = 200;
+// How often a request looks while lanes are filled.
+pub(crate) const LOOKS: u32 = 200;
 
 /// Which group and which registry the readers of lanes are of. It has no bytes.
 ///
@@ -217,7 +217,7 @@ impl<S: BackendSelection, R: KeyRule + Drop, C: HealthCheck + Drop> SharedGroup<
             group: self,
             rt,
             found: self.no_words(),
-            lane: 0,
+            generator: &self.generator,
         };
         let reader = match port.enter(slot) {
             Ok(reader) => reader,

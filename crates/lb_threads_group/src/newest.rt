@@ -1,18 +1,19 @@
-//! Readiness in the newest membership without a lock: its words, in lanes of their own, which each update fills.
+//! Readiness in the newest membership without a lock: its words, in lanes of their own, which each schedule fills.
 ghost use Rattle.std.specs.Prelude.{◌≡◌, IfSome};
 ghost use Rattle.std.specs.Arc.{arc_value};
 ghost use Rattle.std.specs.List.{list_any};
 ghost use Rattle.lb_select_base.specs.Backends.{same_member};
 ghost use Rattle.lb_threads_group.specs.Found.{AreNewest, WereNewest};
-ghost use Rattle.lb_threads_group.specs.Group.{NewestReadyUnder};
+ghost use Rattle.lb_threads_group.specs.Group.{IsState, NewestReadyUnder};
 ghost use Rattle.lb_threads_group.specs.Shared.{SharedValue};
 
 use crate::found::Found;
 use crate::group::SharedGroup;
-use crate::kept::Site;
+use crate::kept::{LOOKS, Site};
 use counted_slot::Fits;
 use lb_health_core::health_check::HealthCheck;
 use lb_health_core::keys::KeyRule;
+use lb_rebuild::watched::Watched;
 use lb_select_base::backend::Backend;
 use lb_select_base::walk::BackendSelection;
 use lb_threads_core::lane::Seen;
@@ -70,15 +71,29 @@ impl<S: BackendSelection, R: KeyRule + Drop, C: HealthCheck + Drop> SharedGroup<
     pub(crate) fn ready_by_words(&self, backend: &Backend) -> Option<bool>
         ensures { IfSome result (NewestReadyUnder R.gives self.now backend.now) }
     {
-        let _site = &self.site;
-        let lane = spread_of(backend) >> 56;
-        let seen = self.newest.read(self.newest.side(), lane, &self.site)?;
+        let seen = self.newest_seen(spread_of(backend) >> 56)?;
         let newest = self.newest_in(&seen)?;
-        if self.is_open() && self.noted_newest() == Some(newest.generation()) {
+        if self.is_open() && newest.generation() >= self.noted_newest()? {
             newest.ready(backend)
         } else {
             None
         }
+    }
+
+    // Reads what the hint's lane has, or another one while a schedule fills them.
+    fn newest_seen(&self, hint: u64) -> Option<Seen<'_, Newest<S, R, C>>>
+        ensures { IfSome result (λ s. s.hand.tag ≡ self.now) }
+    {
+        let _site = &self.site;
+        let mut side = self.newest.side();
+        let mut lane = hint;
+        for _ in 0..LOOKS {
+            if let Some(seen) = self.newest.read(side, lane, &self.site) {
+                return Some(seen);
+            }
+            (side, lane) = self.newest.look_again(side, hint)?;
+        }
+        None
     }
 
     // What a lane has.
@@ -89,14 +104,17 @@ impl<S: BackendSelection, R: KeyRule + Drop, C: HealthCheck + Drop> SharedGroup<
         seen.value()
     }
 
-    // Has words of the newest membership, if that is of this generation and has none yet. It is for the thread that updates, which has the
-    // lock of updates. Where memory is refused, `ready` asks group and registry.
-    pub(crate) fn show_newest<W: Wait>(&self, rt: &W, generation: u64) {
+    // Has words of the newest membership, if it has none yet, and turns `ready` to them. The caller has the group's lock, and notes the
+    // newest generation after it. Where memory is refused, `ready` asks group and registry.
+    pub(crate) fn show_newest<W: Wait>(&self, rt: &W, group: &Watched<S>)
+        requires { IsState self.now.core group.now.core }
+    {
         let place = self.slot_count();
+        let generation = group.core().newest();
         if self.found_for(rt, place, generation).is_some() {
             return;
         }
-        let Some(members) = self.members_of(rt, generation) else {
+        let Some(members) = self.newest_of(group, generation) else {
             return;
         };
         let Some(found) = self.new_found(rt, generation, &members, None) else {
@@ -105,7 +123,7 @@ impl<S: BackendSelection, R: KeyRule + Drop, C: HealthCheck + Drop> SharedGroup<
         self.expect_newest(rt, found);
         // What flags reach from now on.
         if let Some(found) = self.found_for(rt, place, generation) {
-            self.note_members(rt, &*found);
+            self.note_all_of(rt, group, &*found);
             self.fill_newest(&members, &found);
         }
     }
@@ -122,7 +140,7 @@ impl<S: BackendSelection, R: KeyRule + Drop, C: HealthCheck + Drop> SharedGroup<
         }
     }
 
-    // Has the words say what group and registry have of each member.
+    // Has the words say what group and registry have of each member. Between two members it gives the group's lock back.
     pub(crate) fn note_members<W: Wait>(&self, rt: &W, found: &Found<S, R, C>)
         requires { found.now.site ≡ self.now }
     {
@@ -137,14 +155,41 @@ impl<S: BackendSelection, R: KeyRule + Drop, C: HealthCheck + Drop> SharedGroup<
     fn note_one<W: Wait>(&self, rt: &W, found: &Found<S, R, C>, backend: &Backend)
         requires { found.now.site ≡ self.now }
     {
-        let registries: &HealthRegistry<R, C> = &*self.registry;
         let _gate = &self.gate;
         let held = self.lock.take(rt);
         held.value.founded();
-        let cells = take_registry(registries, rt);
-        found.note(held.value.core(), &cells.value, backend);
-        put_registry(registries, cells);
+        self.note_in_group(rt, &held.value, found, backend);
         self.lock.put(held);
+    }
+
+    // Has the words say what group and registry have of each member. The caller has the group's lock.
+    fn note_all_of<W: Wait>(&self, rt: &W, group: &Watched<S>, found: &Found<S, R, C>)
+        requires own { found.now.site ≡ self.now }
+        requires state { IsState self.now.core group.now.core }
+    {
+        for mark in found.marks() {
+            if let Some(backend) = mark {
+                self.note_in_group(rt, group, found, backend);
+            }
+        }
+    }
+
+    // Has the words say what group and registry have of a member. The caller has the group's lock.
+    fn note_in_group<W: Wait>(
+        &self,
+        rt: &W,
+        group: &Watched<S>,
+        found: &Found<S, R, C>,
+        backend: &Backend,
+    )
+        requires own { found.now.site ≡ self.now }
+        requires state { IsState self.now.core group.now.core }
+    {
+        let registries: &HealthRegistry<R, C> = &*self.registry;
+        let _gate = &self.gate;
+        let cells = take_registry(registries, rt);
+        found.note(group.core(), &cells.value, backend);
+        put_registry(registries, cells);
     }
 
     // Turns `ready` to lanes that have these members and their words, and empties the others.

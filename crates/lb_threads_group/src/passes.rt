@@ -189,7 +189,7 @@ impl<S: BackendSelection, R: KeyRule + Drop, C: HealthCheck + Drop> SharedGroup<
             group: self,
             rt,
             found: self.no_words(),
-            lane: 0,
+            generator: &self.generator,
         };
         port.leave(reader);
     }
@@ -217,7 +217,7 @@ impl<'g, 'r, S: BackendSelection, R: KeyRule + Drop, C: HealthCheck + Drop, W: W
 
     fn random(&mut self) -> u64 {
         let group = self.group;
-        group.random_of(self.slot, 0)
+        group.generator.random()
     }
 
     fn load(&self, backend: &Backend) -> u64 {

@@ -24,6 +24,7 @@ use lb_select_base::backend::Backend;
 use lb_select_base::refusal::Refusal;
 use lb_select_base::walk::BackendSelection;
 use lb_threads_core::gate::{SelectorRebuildGate, put_gate, take_gate};
+use lb_threads_core::generators::SharedGenerator;
 use lb_threads_core::keyed::NoRule;
 use lb_threads_core::registry::{HealthRegistry, put_registry, take_registry};
 use std::alloc::Global;
@@ -45,8 +46,7 @@ pub struct LockedPort<
     pub rt: &'r W,
     // Words of the group, which are loaded before a lock is taken.
     pub(crate) found: Option<&'f Found<S, R, C>>,
-    // The lane that random words are of.
-    pub(crate) lane: u64,
+    pub(crate) generator: &'f SharedGenerator,
     ghost own: { ForSome found (λ f. f.now.site ≡ group.now) },
 }
 
@@ -59,7 +59,7 @@ impl<'g, 'r, S: BackendSelection, R: KeyRule + Drop, C, W> LockedPort<'g, 'r, 'g
             group,
             rt,
             found: group.no_words(),
-            lane: 0,
+            generator: &group.generator,
         }
     }
 }
@@ -93,9 +93,12 @@ impl<
             .value
             .schedule(alloc, &mut cells.value, discovered, settings, now);
         put_registry(registries, cells);
+        held.value.founded();
+        if told.is_ok() {
+            group.show_newest(self.rt, &held.value);
+        }
         group.note_all(&held.value);
         if has_settings {
-            held.value.founded();
             group.note_flags(self.rt, &held.value, None);
         }
         group.lock.put(held);
@@ -173,9 +176,8 @@ impl<'g, 'r, 'f, S: BackendSelection, R: KeyRule + Drop, C: HealthCheck + Drop, 
         }
     }
 
-    fn random(&mut self, reader: &Reader<S>) -> u64 {
-        let group = self.group;
-        group.random_of(reader.slot(), self.lane)
+    fn random(&mut self, _reader: &Reader<S>) -> u64 {
+        self.generator.random()
     }
 
     fn load(&self, _reader: &Reader<S>, backend: &Backend) -> u64 {

@@ -15,6 +15,7 @@ use lb_select_base::backend::Backend;
 use lb_select_base::refusal::Refusal;
 use lb_select_base::select::copied_answer;
 use lb_select_base::walk::BackendSelection;
+use lb_threads_core::generators::SharedGenerator;
 use lb_threads_core::lane::Seen;
 use lb_threads_core::lanes::hint_of;
 use std::alloc::Global;
@@ -28,7 +29,8 @@ impl<S: BackendSelection, R: KeyRule + Drop, C: HealthCheck + Drop> SharedGroup<
     /// looked at. It is `None` too where no such slot is there.
     ///
     /// A reader enters the slot for it. Then it leaves, or a lane of the slot keeps it for the selections that follow, in a cancelled group
-    /// too. They take no lock but before the slot's first publication, where memory for words was refused, and once `let_go` was called.
+    /// too. They take no lock but before the slot's first publication, where memory for words was refused, once `let_go` was called, and
+    /// where a thread that publishes is stopped while it fills lanes.
     /// The worker that publishes fills lanes with readers of what it published, and empties those that had others. One that is read is
     /// emptied once that selection has ended, by the worker, which it wakes then, or by the next call that takes out what is retired.
     ///
@@ -79,7 +81,8 @@ impl<S: BackendSelection, R: KeyRule + Drop, C: HealthCheck + Drop> SharedGroup<
             self.end_reading(seen);
             return self.select_entering(rt, alloc, slot, lane, key, max_iterations, accept);
         };
-        match self.find_as(rt, alloc, entry, lane, key, max_iterations, accept) {
+        let generator = seen.generator();
+        match self.find_as(rt, alloc, entry, generator, key, max_iterations, accept) {
             Ok(Some(found)) => {
                 // The step that ends the reading waits until the copy is written, so that is moved after it.
                 let copy = found.copied(alloc);
@@ -124,7 +127,7 @@ impl<S: BackendSelection, R: KeyRule + Drop, C: HealthCheck + Drop> SharedGroup<
     {
         match self.enter_lane(rt, slot) {
             Ok(entry) => {
-                let answer = self.select_as(rt, alloc, &entry, hint, key, max_iterations, accept);
+                let answer = self.select_as(rt, alloc, &entry, key, max_iterations, accept);
                 self.keep(rt, hint, entry);
                 answer
             }
@@ -164,7 +167,6 @@ impl<S: BackendSelection, R: KeyRule + Drop, C: HealthCheck + Drop> SharedGroup<
         rt: &W,
         alloc: Global,
         entry: &Entry<S, R, C>,
-        lane: u64,
         key: &[u8],
         max_iterations: usize,
         accept: &F,
@@ -174,17 +176,18 @@ impl<S: BackendSelection, R: KeyRule + Drop, C: HealthCheck + Drop> SharedGroup<
         ensures { SelectsUnder R.gives (λ b ready a. Answers F.Fn accept.now b ready a) max_iterations S.walks key.now self.now
             entry.now.reader result }
     {
-        let found = self.find_as(rt, alloc, entry, lane, key, max_iterations, accept);
+        let generator = &self.generator;
+        let found = self.find_as(rt, alloc, entry, generator, key, max_iterations, accept);
         copied_answer(alloc, found)
     }
 
-    // Selects in what was entered, and gives what was found in place.
+    // Selects in what was entered, with random words of this generator, and gives what was found in place.
     fn find_as<'e, W: Wait, F: Fn(&Backend, bool) -> bool>(
         &self,
         rt: &W,
         alloc: Global,
         entry: &'e Entry<S, R, C>,
-        lane: u64,
+        generator: &'e SharedGenerator,
         key: &[u8],
         max_iterations: usize,
         accept: &F,
@@ -198,7 +201,7 @@ impl<S: BackendSelection, R: KeyRule + Drop, C: HealthCheck + Drop> SharedGroup<
             group: self,
             rt,
             found: entry.words(),
-            lane,
+            generator,
         };
         find_on(alloc, &mut port, &entry.reader, key, max_iterations, accept)
     }

@@ -77,7 +77,7 @@ fn turn_of<
         group,
         rt,
         found: group.no_words(),
-        lane: 0,
+        generator: &group.generator,
     };
     turn_on(alloc, &mut port, slot, clock)
 }

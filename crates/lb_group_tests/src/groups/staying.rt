@@ -1,12 +1,13 @@
 //! Readers that stay in what their slot retired, by calls: they hold up each rebuild on their gate, also in a cancelled group, and what
 //! they are in is destroyed once they have left. Selections in a lane, and `ready`, go on while the registry's lock is held.
 use crate::groups::turns::{turn, update};
-use lb_crowd::crowd::{NoCheck, Registry, select_one};
+use lb_crowd::crowd::{NoCheck, Registry, one_backend, select_one};
+use lb_crowd::turns::Still;
 use lb_threads_core::registry::{put_registry, take_registry};
 use pingora_load_balancing::discovery::ServiceDiscovery;
 use pingora_load_balancing::health_check::{HealthCheck, KeyRule, NoRule, Rule};
 use pingora_load_balancing::plain::Counts;
-use pingora_load_balancing::port::{LockedPort, Turn, WorkPort};
+use pingora_load_balancing::port::{LockedPort, Turn, WorkPort, update_through};
 use pingora_load_balancing::selection::BackendSelection;
 use pingora_load_balancing::{Backend, HealthRegistry, LoadBalancerGroup, Refusal, SharedGroup};
 use std::alloc::Global;
@@ -336,8 +337,19 @@ fn changes_another<S: BackendSelection, R: KeyRule + Drop, C: HealthCheck + Drop
     [shown == Ok(()), flipped == Ok(true)] == [true; 2]
 }
 
-/// A selection takes no lock, nor does a reading of what is ready, also after flips of the backend's cell and a flag: they go on while this
-/// very thread holds the registry, and all the second that another thread does. A flip is seen by the next ones.
+// Updates a group to one backend by a port, so that no call of the group's own follows the schedule; the generation.
+fn schedule<S: BackendSelection, R: KeyRule + Drop, C: HealthCheck + Drop, W: Wait + Abort>(
+    rt: &W,
+    alloc: Global,
+    group: &SharedGroup<S, R, C>,
+) -> u64 {
+    let discovery = one_backend(alloc, 1).expect(rt, "refused");
+    let mut port = LockedPort::new(group, rt);
+    update_through(alloc, &mut port, &discovery, &mut Still {}).expect(rt, "refused")
+}
+
+/// A selection takes no lock, nor does a reading of what is ready, once a schedule has ended, also after flips of the backend's cell and a
+/// flag: they go on while this very thread holds the registry, and all the second that another thread does. A flip is seen by the next.
 pub fn selects_while_the_registry_is_held<
     S: BackendSelection,
     D: ServiceDiscovery + Drop,
@@ -349,7 +361,7 @@ pub fn selects_while_the_registry_is_held<
     registry: &Registry,
 ) {
     let group = &**handle.shared();
-    update(rt, alloc, group, 1);
+    let newest = schedule(rt, alloc, group);
     let published = turn(rt, alloc, group, 0);
     let first = select_one(rt, alloc, group, 0).expect(rt, "refused");
     let first = first.expect(rt, "none is ready");
@@ -365,7 +377,7 @@ pub fn selects_while_the_registry_is_held<
     let flipped = registry.observe(rt, cell, false, 1);
     let third = select_one(rt, alloc, group, 0).expect(rt, "refused");
     let told = [
-        published == Turn::Published(1),
+        (newest, published) == (1, Turn::Published(1)),
         [asked, again, group.ready(rt, &first)] == [true, true, false],
         count >= SELECTIONS,
         other,
