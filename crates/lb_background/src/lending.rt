@@ -94,8 +94,9 @@ impl<'b, B: LendsToThreads> SharedBackends<'b, B> {
 
     /// Returns whether a backend is ready in the newest membership, without taking memory.
     ///
-    /// It takes no lock but before the first update, where memory for words was refused, once a group is cancelled or a balancer left its
-    /// registry, and where a thread that updates is stopped while it fills lanes.
+    /// It takes no lock but before the first update has ended, where memory for words was refused, where other threads keep all four lanes
+    /// busy that it tries, and once a group's handle was dropped or a balancer left its registry. A balancer's also takes some where the
+    /// thread that updates is stopped while it fills lanes.
     pub fn ready<W: Wait>(&self, rt: &W, backend: &Backend) -> bool
         ensures { B.judges self.now.lender.now backend.now result }
     {

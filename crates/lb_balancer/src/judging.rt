@@ -225,8 +225,8 @@ impl<
 
     /// Returns whether a backend is ready in the newest membership, without taking memory.
     ///
-    /// It mostly takes no lock. It does before the first update, where memory for words was refused, and once the balancer left its
-    /// registry.
+    /// It takes no lock but before the first update, where memory for words was refused, where other threads keep all four lanes busy that
+    /// it tries, where the thread that updates is stopped while it fills lanes, and once the balancer left its registry.
     pub(crate) fn ready<W: Wait>(&self, rt: &W, backend: &Backend) -> bool
         ensures { JudgedBy R.gives self.now backend.now result }
     {

@@ -141,6 +141,7 @@ impl<
     C: HealthCheck + Drop,
 > Balancing<S, D, R, C> {
     // Reads what the hint's lane has, where that is of the generation that is served now.
+    #[inline(always)]
     fn seen_in_lane(&self, hint: u64) -> Option<Seen<'_, KeptShown<S, D, R, C>>>
         ensures { IfSome result (λ s. s.hand.tag ≡ self.now) }
     {
@@ -152,7 +153,7 @@ impl<
     }
 
     // Reads what the hint's lane of a side has, where that is of the generation that is served now.
-    #[inline]
+    #[inline(always)]
     fn seen_on(&self, side: Side, hint: u64) -> Option<Seen<'_, KeptShown<S, D, R, C>>>
         ensures { IfSome result (λ s. s.hand.tag ≡ self.now) }
     {

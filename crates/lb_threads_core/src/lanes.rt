@@ -39,8 +39,8 @@ impl Side {
         self.turns / 2 % 2
     }
 
-    // Whether the other side was being filled.
-    fn is_filling(self) -> bool {
+    /// Returns whether the other side was being filled.
+    pub fn is_filling(self) -> bool {
         self.turns % 2 == 1
     }
 
@@ -80,6 +80,11 @@ impl<X: Fits + Drop> Lanes<X> {
         Side {
             turns: self.turns.load(SeqCst),
         }
+    }
+
+    /// Returns whether readers weren't turned since this was the side that they use.
+    pub fn is_used(&self, side: Side) -> bool {
+        self.side().turns / 2 == side.turns / 2
     }
 
     /// Returns where a reader looks again that found nothing on a side: on the one that readers use now, or in one of the other's first

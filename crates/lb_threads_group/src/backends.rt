@@ -36,8 +36,8 @@ impl<S: BackendSelection, R: KeyRule + Drop, C: HealthCheck + Drop> SharedGroup<
 
     /// Returns whether a backend is ready in the newest membership, without taking memory.
     ///
-    /// It takes no lock but before the first update, where memory for words was refused, once `let_go` was called, and where a thread that
-    /// updates is stopped while it fills lanes.
+    /// It takes no lock but before the first update has ended, where memory for words was refused, where other threads keep all four lanes
+    /// busy that it tries, and once `let_go` was called.
     pub fn ready<W: Wait>(&self, rt: &W, backend: &Backend) -> bool
         ensures { NewestReadyUnder R.gives self.now backend.now result }
     {

@@ -128,6 +128,7 @@ impl<S: BackendSelection, R: KeyRule + Drop, C: HealthCheck + Drop> SharedGroup<
     }
 
     // Reads what the hint's lane of a slot has, if it is of what the slot serves now.
+    #[inline(always)]
     pub(crate) fn seen_in_lane<'g>(
         &'g self,
         slot: usize,
@@ -144,7 +145,7 @@ impl<S: BackendSelection, R: KeyRule + Drop, C: HealthCheck + Drop> SharedGroup<
     }
 
     // Reads what the hint's lane of a side has, if it is of what the slot serves now.
-    #[inline]
+    #[inline(always)]
     fn seen_on<'g>(
         &'g self,
         lanes: &'g SlotLanes<S, R, C>,

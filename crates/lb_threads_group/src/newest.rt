@@ -20,6 +20,7 @@ use lb_threads_core::lane::Seen;
 use lb_threads_core::marks::spread_of;
 use lb_threads_core::registry::{HealthRegistry, put_registry, take_registry};
 use std::collections::BTreeSet;
+use std::hint::spin_loop;
 use std::sync::{Arc, Wait};
 
 /// A membership that was the newest one of its group, and its words.
@@ -71,27 +72,31 @@ impl<S: BackendSelection, R: KeyRule + Drop, C: HealthCheck + Drop> SharedGroup<
     pub(crate) fn ready_by_words(&self, backend: &Backend) -> Option<bool>
         ensures { IfSome result (NewestReadyUnder R.gives self.now backend.now) }
     {
+        // Lanes are turned to a generation before it is noted, so those that are read now have it, or a later one.
+        let noted = self.noted_newest()?;
         let seen = self.newest_seen(spread_of(backend) >> 56)?;
         let newest = self.newest_in(&seen)?;
-        if self.is_open() && newest.generation() >= self.noted_newest()? {
+        if self.is_open() && newest.generation() >= noted {
             newest.ready(backend)
         } else {
             None
         }
     }
 
-    // Reads what the hint's lane has, or another one while a schedule fills them.
+    // Reads what the hint's lane has on the side that readers use. Where they were turned meanwhile, it looks again: the lane may have been
+    // filled by a later schedule, which isn't noted yet, and the next call would go by the one before.
     fn newest_seen(&self, hint: u64) -> Option<Seen<'_, Newest<S, R, C>>>
         ensures { IfSome result (λ s. s.hand.tag ≡ self.now) }
     {
         let _site = &self.site;
-        let mut side = self.newest.side();
-        let mut lane = hint;
+        let lanes = &self.newest;
         for _ in 0..LOOKS {
-            if let Some(seen) = self.newest.read(side, lane, &self.site) {
-                return Some(seen);
+            let side = lanes.side();
+            let seen = lanes.read(side, hint, &self.site);
+            if lanes.is_used(side) && (seen.is_some() || !side.is_filling()) {
+                return seen;
             }
-            (side, lane) = self.newest.look_again(side, hint)?;
+            spin_loop();
         }
         None
     }

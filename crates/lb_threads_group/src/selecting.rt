@@ -29,8 +29,8 @@ impl<S: BackendSelection, R: KeyRule + Drop, C: HealthCheck + Drop> SharedGroup<
     /// looked at. It is `None` too where no such slot is there.
     ///
     /// A reader enters the slot for it. Then it leaves, or a lane of the slot keeps it for the selections that follow, in a cancelled group
-    /// too. They take no lock but before the slot's first publication, where memory for words was refused, once `let_go` was called, and
-    /// where a thread that publishes is stopped while it fills lanes.
+    /// too. They take no lock but before the slot's first publication, where memory for words was refused, once `let_go` was called, where
+    /// other threads keep all four lanes busy that a selection tries, and where a thread that publishes is stopped while it fills lanes.
     /// The worker that publishes fills lanes with readers of what it published, and empties those that had others. One that is read is
     /// emptied once that selection has ended, by the worker, which it wakes then, or by the next call that takes out what is retired.
     ///
