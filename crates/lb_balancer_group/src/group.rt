@@ -236,9 +236,7 @@ impl<
     /// looked at. It is `None` too where no such slot is there.
     ///
     /// A reader enters the slot for it. Then it leaves, or a lane of the slot keeps it for the selections that follow, in a cancelled group
-    /// too. They take no lock but before the slot's first publication, and where memory for words was refused. The worker that publishes
-    /// fills lanes with readers of what it published, and empties those that had others. One that is read is emptied once that selection
-    /// has ended, by the worker, which it wakes then, or by the next call that takes out what is retired.
+    /// too. They take a lock only where `SharedGroup::select_with` says so, which also says how lanes are filled and emptied.
     ///
     /// # Errors
     ///

@@ -137,6 +137,59 @@ where
     Ok(())
 }
 
+// A group over two servers.
+fn group_over<R, C>(
+    rt: R,
+    servers: (&R::Listener, &R::Listener),
+    registry: &Arc<Registry<C>>,
+    gate: &Arc<SelectorRebuildGate>,
+) -> Result<Group<C>, anyhow::Error>
+where
+    R: Log + Net + Threads + Wait + Clock + AllocGlobal + Copy + Send + Sync + Drop + 'static,
+    C: HealthCheck + Drop + Send + Sync + 'static,
+{
+    let alloc = rt.alloc();
+    let (one, other) = servers;
+    let one_text = format!(in alloc; "{}", one.local_addr()?)?;
+    let other_text = format!(in alloc; "{}", other.local_addr()?)?;
+    group_of(rt, [one_text.as_str(), other_text.as_str()], registry, gate)
+}
+
+// Two groups over one gate, of which the second server is in both.
+fn groups_over<R, C>(
+    rt: R,
+    servers: (&R::Listener, &R::Listener, &R::Listener),
+    registry: &Arc<Registry<C>>,
+) -> Result<[Group<C>; 2], anyhow::Error>
+where
+    R: Log + Net + Threads + Wait + Clock + AllocGlobal + Copy + Send + Sync + Drop + 'static,
+    C: HealthCheck + Drop + Send + Sync + 'static,
+{
+    let alloc = rt.alloc();
+    let (first, both, last) = servers;
+    let gate = Arc::new(alloc, SelectorRebuildGate::new(alloc)?)?;
+    let one = group_over(rt, (first, both), registry, &gate)?;
+    let other = group_over(rt, (both, last), registry, &gate)?;
+    Ok([one, other])
+}
+
+// Checks the servers of these groups in the background, and makes requests meanwhile.
+fn serve<R, C>(
+    rt: &R,
+    registry: Arc<Registry<C>>,
+    groups: &[Group<C>; 2],
+    server: R::Listener,
+) -> Result<(), anyhow::Error>
+where
+    R: Log + Net + Threads + Wait + Clock + Print + AllocGlobal + Copy + Sync,
+    C: HealthCheck + Drop + Send + Sync,
+{
+    let (mut signal, watch) = shutdown_pair(rt.alloc())?;
+    let mut service = HealthCheckService::new(registry);
+    service.health_check_frequency = Some(100_000_000);
+    run_beside(rt, &service, groups, server, &mut signal, &watch)
+}
+
 /// Runs two groups over one registry with this check and one gate, and prints how many servers their requests went to: with all servers,
 /// without the one of both, with all again.
 pub fn run<R, C>(rt: &R, check: C) -> Result<(), anyhow::Error>
@@ -149,20 +202,9 @@ where
     let first = TcpListener::bind(rt, "127.0.0.1:0")?;
     let both = TcpListener::bind(rt, "127.0.0.1:0")?;
     let last = TcpListener::bind(rt, "127.0.0.1:0")?;
-    let first_text = format!(in alloc; "{}", first.local_addr()?)?;
-    let both_text = format!(in alloc; "{}", both.local_addr()?)?;
-    let last_text = format!(in alloc; "{}", last.local_addr()?)?;
-    let (mut signal, watch) = shutdown_pair(alloc)?;
-    let gate = Arc::new(alloc, SelectorRebuildGate::new(alloc)?)?;
     let registry: Registry<C> = HealthRegistry::new(alloc)?;
     let registry = Arc::new(alloc, registry)?;
     registry.set_health_check(rt, check)?;
-    let mut service = HealthCheckService::new(Arc::try_clone(&registry)?);
-    service.health_check_frequency = Some(100_000_000);
-    let texts = [first_text.as_str(), both_text.as_str()];
-    let one = group_of(*rt, texts, &registry, &gate)?;
-    let texts = [both_text.as_str(), last_text.as_str()];
-    let other = group_of(*rt, texts, &registry, &gate)?;
-    let groups = [one, other];
-    run_beside(rt, &service, &groups, both, &mut signal, &watch)
+    let groups = groups_over(*rt, (&first, &both, &last), &registry)?;
+    serve(rt, registry, &groups, both)
 }

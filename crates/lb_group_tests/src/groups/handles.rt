@@ -7,7 +7,7 @@ use pingora_load_balancing::background::{RuntimeClock, start_workers_by};
 use pingora_load_balancing::discovery::ServiceDiscovery;
 use pingora_load_balancing::health_check::{HealthCheck, KeyRule};
 use pingora_load_balancing::selection::BackendSelection;
-use pingora_load_balancing::{Backend, LoadBalancerGroup};
+use pingora_load_balancing::{Backend, LendsToThreads, LoadBalancerGroup, SharedBackends};
 use std::alloc::Global;
 use std::process::Abort;
 use std::sync::Wait;
@@ -52,6 +52,39 @@ fn fresh<
     ]
 }
 
+// What borrowed backends show: the newest generation, and whether a backend is ready.
+fn shown<B: LendsToThreads, W: Wait>(
+    rt: &W,
+    backends: &SharedBackends<'_, B>,
+    one: &Backend,
+) -> (u64, bool) {
+    (backends.generation(rt), backends.ready(rt, one))
+}
+
+// Whether a backend is the one member, and whether it is ready.
+fn is_member<B: LendsToThreads, W: Abort + Wait>(
+    rt: &W,
+    backends: &SharedBackends<'_, B>,
+    one: &Backend,
+) -> [bool; 2] {
+    let members = backends.get_backend(rt).expect(rt, "refused");
+    [
+        members.len() == 1 && members.contains(one),
+        backends.ready(rt, one),
+    ]
+}
+
+// Disables a backend; what is shown then of it and of another one.
+fn disabled<B: LendsToThreads, W: Wait>(
+    rt: &W,
+    backends: &SharedBackends<'_, B>,
+    one: &Backend,
+    other: &Backend,
+) -> [(u64, bool); 2] {
+    backends.set_enable(rt, one, false);
+    [shown(rt, backends, one), shown(rt, backends, other)]
+}
+
 // What the borrowed backends of a handle show before its first update, after it, and once a flag is set. Its first slot, whose turns this
 // thread takes, selects the one member then, and nothing once that is disabled.
 fn lent<
@@ -64,23 +97,22 @@ fn lent<
     let backends = group.backends();
     let one = Backend::new(alloc, "1.0.0.1:80").expect(rt, "refused");
     let other = Backend::new(alloc, "1.0.0.2:80").expect(rt, "refused");
-    let before = (backends.generation(rt), backends.ready(rt, &one));
+    let before = shown(rt, &backends, &one);
     let generation = group.update(rt, alloc, &mut RuntimeClock::new(*rt));
-    let members = backends.get_backend(rt).expect(rt, "refused");
-    let is_ready = backends.ready(rt, &one);
+    let [is_listed, is_ready] = is_member(rt, &backends, &one);
     for _ in 0..2 {
         turn(rt, alloc, &**group.shared(), 0);
     }
     let is_selected = selected(rt, alloc, group).as_ref() == Some(&one);
-    backends.set_enable(rt, &one, false);
+    let [after, of_other] = disabled(rt, &backends, &one, &other);
     [
         before == (0, false),
         generation == Ok(1),
-        backends.generation(rt) == 1,
-        members.len() == 1 && members.contains(&one),
-        is_ready && is_selected,
-        !backends.ready(rt, &one),
-        !backends.ready(rt, &other),
+        is_listed,
+        is_ready,
+        is_selected,
+        after == (1, false),
+        of_other == (1, false),
         selected(rt, alloc, group).is_none(),
         group.last_update_timing(rt).is_some() && !group.is_cancelled(rt),
     ]
