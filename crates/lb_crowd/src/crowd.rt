@@ -159,6 +159,19 @@ impl<W: Wait + Clock + Copy + Drop> Crowd<W> {
     }
 }
 
+// Whether two groups whose handles are gone know it, and whether their workers end. The groups are dropped then.
+fn have_left<S: BackendSelection, R: KeyRule + Drop, C: HealthCheck + Drop, W: Wait + Clock>(
+    rt: &W,
+    shared: [Arc<SharedGroup<S, R, C>>; 2],
+    turns: u64,
+) -> [bool; 2] {
+    let [one, other] = shared;
+    [
+        one.is_let_go() && other.is_let_go(),
+        ends(rt, &*one, turns) && ends(rt, &*other, turns),
+    ]
+}
+
 // What groups leave whose handles are gone.
 fn left<W: Wait + Clock + Copy + Drop>(
     rt: &W,
@@ -167,11 +180,7 @@ fn left<W: Wait + Clock + Copy + Drop>(
     shared: [Arc<Group<W>>; 2],
     turns: u64,
 ) -> [bool; 6] {
-    let [one, other] = shared;
-    let are_let_go = one.is_let_go() && other.is_let_go();
-    let have_ended = ends(rt, &*one, turns) && ends(rt, &*other, turns);
-    drop(one);
-    drop(other);
+    let [are_let_go, have_ended] = have_left(rt, shared, turns);
     [
         are_let_go,
         have_ended,

@@ -24,7 +24,29 @@ impl MomentSource for Still {
     }
 }
 
-/// Takes a turn for a slot.
+/// Takes a turn for a slot, by this clock.
+///
+/// # Errors
+///
+/// Those of `worker_turn`.
+pub fn turn_by<
+    S: BackendSelection,
+    R: KeyRule + Drop,
+    C: HealthCheck + Drop,
+    W: Wait,
+    K: MomentSource,
+>(
+    rt: &W,
+    alloc: Global,
+    group: &SharedGroup<S, R, C>,
+    slot: usize,
+    clock: &mut K,
+) -> Result<Turn, Refusal> {
+    let mut port = LockedPort::new(group, rt);
+    worker_turn(alloc, &mut port, slot, clock)
+}
+
+/// Takes a turn for a slot, by a clock that always reads the same.
 ///
 /// # Errors
 ///
@@ -35,6 +57,5 @@ pub fn turn<S: BackendSelection, R: KeyRule + Drop, C: HealthCheck + Drop, W: Wa
     group: &SharedGroup<S, R, C>,
     slot: usize,
 ) -> Result<Turn, Refusal> {
-    let mut port = LockedPort::new(group, rt);
-    worker_turn(alloc, &mut port, slot, &mut Still {})
+    turn_by(rt, alloc, group, slot, &mut Still {})
 }

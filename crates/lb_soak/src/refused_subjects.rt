@@ -1,9 +1,10 @@
 //! The shared types whose calls are made while memory is refused.
 use crate::refused::{Call, Course, FIRST, Lists, Seen, Subject, Ticks, set_of};
 use lb_balancer::load_balancer::LoadBalancer;
-use lb_balancer_core::turn::{Turn, worker_turn};
+use lb_balancer_core::turn::Turn;
 use lb_balancer_group::group::LoadBalancerGroup;
 use lb_crowd::crowd::NoCheck;
+use lb_crowd::turns::turn_by;
 use lb_health_core::health_check::HealthCheck;
 use lb_health_core::keys::{KeyRule, Rule};
 use lb_health_view::discovery::DiscoverySource;
@@ -17,7 +18,6 @@ use lb_threads_core::gate::SelectorRebuildGate;
 use lb_threads_core::keyed::NoRule;
 use lb_threads_core::registry::HealthRegistry;
 use lb_threads_group::group::SharedGroup;
-use lb_threads_group::port::LockedPort;
 use std::alloc::Global;
 use std::net::Net;
 use std::sync::atomic::Ordering::SeqCst;
@@ -333,11 +333,10 @@ fn taken<S: BackendSelection, R: KeyRule + Drop, C: HealthCheck + Drop, W: Wait>
     group: &SharedGroup<S, R, C>,
     now: u64,
 ) -> Result<Turn, Refusal> {
-    let mut port = LockedPort::new(group, rt);
     let mut clock = Ticks {
         next: u128::from(now),
     };
-    worker_turn(alloc, &mut port, 0, &mut clock)
+    turn_by(rt, alloc, group, 0, &mut clock)
 }
 
 // Takes a turn for the slot of a group, a second after the last one. Returns the generation that is published.

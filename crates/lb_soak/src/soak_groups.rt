@@ -1,5 +1,6 @@
 //! The groups of the soak: four of two slots each, two on each of two gates and two over each of two registries. Their slots have selectors
 //! of all five kinds.
+use lb_balancer_core::configured::Configured;
 use lb_balancer_group::gate_refusal::GateRefusal;
 use lb_balancer_group::group::LoadBalancerGroup;
 use lb_crowd::counted::{Counted, Counting, Counts};
@@ -7,7 +8,7 @@ use lb_crowd::crowd::{ends, is_free, lives_none};
 use lb_crowd::members::member;
 use lb_health_core::error::CheckError;
 use lb_health_core::health_check::HealthCheck;
-use lb_health_core::keys::Rule;
+use lb_health_core::keys::{KeyRule, Rule};
 use lb_health_view::discovery::{Discovered, DiscoverySource, ServiceDiscovery};
 use lb_health_view::view::Settings;
 use lb_script::kinds::{Chosen, Kind};
@@ -20,6 +21,7 @@ use lb_threads_core::clock::RuntimeClock;
 use lb_threads_core::gate::SelectorRebuildGate;
 use lb_threads_core::keyed::NoRule;
 use lb_threads_core::registry::HealthRegistry;
+use lb_threads_group::group::SharedGroup;
 use log::Log;
 use std::alloc::Global;
 use std::collections::BTreeSet;
@@ -142,6 +144,35 @@ fn group_on<W: Wait + Clock + Drop, S: BackendSelection>(
     }
 }
 
+// The groups of three handles.
+fn shared_of<
+    S: BackendSelection,
+    D: ServiceDiscovery + Drop,
+    R: KeyRule + Drop,
+    C: HealthCheck + Drop,
+>(
+    handles: &[Arc<LoadBalancerGroup<S, D, R, C>>; 3],
+) -> Result<[Arc<SharedGroup<Configured<S>, R, C>>; 3], Refusal> {
+    let [first, second, third] = handles;
+    Ok([
+        Arc::try_clone(first.shared())?,
+        Arc::try_clone(second.shared())?,
+        Arc::try_clone(third.shared())?,
+    ])
+}
+
+// Whether the workers of three groups end. The groups are dropped then.
+fn all_end<S: BackendSelection, R: KeyRule + Drop, C: HealthCheck + Drop, W: Wait + Clock>(
+    rt: &W,
+    groups: [Arc<SharedGroup<S, R, C>>; 3],
+) -> bool {
+    let mut have_ended = true;
+    for group in &groups {
+        have_ended &= ends(rt, &**group, TURNS);
+    }
+    have_ended
+}
+
 /// The four groups, and the counts of the selectors on each gate.
 #[derive(Drop)]
 pub struct Groups<W: Wait + Clock + Copy + Drop> {
@@ -197,12 +228,7 @@ impl<W: Wait + Clock + Copy + Drop> Groups<W> {
     /// Drops the groups. Returns whether their workers end, no more selectors than the slots and one lived on a gate, none lives on, each
     /// permit is back, and the registries have nothing to check.
     pub fn leave(self, rt: &W, alloc: Global, site: &Site) -> Result<[bool; 5], Refusal> {
-        let [first, second, third] = &self.chosen;
-        let shared = [
-            Arc::try_clone(first.shared())?,
-            Arc::try_clone(second.shared())?,
-            Arc::try_clone(third.shared())?,
-        ];
+        let shared = shared_of(&self.chosen)?;
         let random = Arc::try_clone(self.random.shared())?;
         let Groups {
             counts,
@@ -211,12 +237,9 @@ impl<W: Wait + Clock + Copy + Drop> Groups<W> {
         } = self;
         drop(chosen);
         drop(handle);
-        let mut have_ended = ends(rt, &*random, TURNS);
-        for group in &shared {
-            have_ended &= ends(rt, &**group, TURNS);
-        }
-        drop(shared);
+        let has_ended = ends(rt, &*random, TURNS);
         drop(random);
+        let have_ended = all_end(rt, shared) && has_ended;
         Ok(left(rt, alloc, site, &counts, have_ended))
     }
 }

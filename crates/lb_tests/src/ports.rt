@@ -1,5 +1,7 @@
 //! Tests of groups by their calls: updates, workers' turns and selections through the port of a plain group.
 //! The clock goes on by five at each reading. The owner of what the port borrows makes one call with it.
+ghost use Rattle.std.specs.Prelude.{◌≡◌};
+
 use crate::asserted::assert_same;
 use crate::balance::balancers::Rows;
 use crate::told::{Answer, DONE, Members, Ticks, Told, YES, always, is_at, one_slot};
@@ -150,26 +152,36 @@ fn plays<P: GroupPort<RoundRobin>>(alloc: Global, port: &mut P, row: usize, rt: 
     }
 }
 
-// Plays a row on a new group of one slot.
-fn played(alloc: Global, row: usize, rt: &impl Abort) -> Result<(), Refusal> {
-    let mut registry = RegistryCore::new(alloc);
-    let mut gate = GateCore::new(alloc)?;
-    let mut core: GroupCore<RoundRobin> = GroupCore::new(
-        alloc,
-        &mut registry,
-        &gate,
-        one_slot(alloc)?,
-    )?;
+// Plays a row on a group by what its port borrows.
+fn played_on(
+    alloc: Global,
+    registry: &mut RegistryCore,
+    gate: &mut GateCore,
+    core: &mut GroupCore<RoundRobin>,
+    row: usize,
+    rt: &impl Abort,
+)
+    requires gate { gate.old.id ≡ core.old.group.gate }
+    requires registry { registry.old.id ≡ core.old.registry }
+{
     let mut generator = Pcg64::new(1, 2);
     let loads = Loads::new();
     let mut port = PlainPort {
-        core: &mut core,
-        registry: &mut registry,
-        gate: &mut gate,
+        core,
+        registry,
+        gate,
         generator: &mut generator,
         loads: &loads,
     };
     plays(alloc, &mut port, row, rt);
+}
+
+// Plays a row on a new group of one slot.
+fn played(alloc: Global, row: usize, rt: &impl Abort) -> Result<(), Refusal> {
+    let mut registry = RegistryCore::new(alloc);
+    let mut gate = GateCore::new(alloc)?;
+    let mut core = GroupCore::new(alloc, &mut registry, &gate, one_slot(alloc)?)?;
+    played_on(alloc, &mut registry, &mut gate, &mut core, row, rt);
     Ok(())
 }
 

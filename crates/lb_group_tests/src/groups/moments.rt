@@ -4,10 +4,11 @@ ghost use Rattle.std.specs.Prelude.{◌≡◌};
 use crate::asserted::assert_same;
 use crate::groups::turns::too_heavy;
 use lb_crowd::crowd::{Crowd, crowd_in, one_backend};
+use lb_crowd::turns::turn_by;
 use log::Log;
 use pingora_load_balancing::health_check::{HealthCheck, KeyRule};
 use pingora_load_balancing::plain::Timing;
-use pingora_load_balancing::port::{LockedPort, Turn, worker_turn};
+use pingora_load_balancing::port::Turn;
 use pingora_load_balancing::selection::BackendSelection;
 use pingora_load_balancing::{MomentSource, Refusal, SharedGroup};
 use std::alloc::Global;
@@ -80,8 +81,7 @@ fn comes_of<S: BackendSelection, R: KeyRule + Drop, C: HealthCheck + Drop, W: Wa
             Ok(Done::Heavy(newest))
         }
         Done::Took(_) => {
-            let mut port = LockedPort::new(group, rt);
-            let turn = worker_turn(alloc, &mut port, 0, &mut clock)?;
+            let turn = turn_by(rt, alloc, group, 0, &mut clock)?;
             Ok(Done::Took(turn))
         }
     }
