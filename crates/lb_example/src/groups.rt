@@ -173,23 +173,6 @@ where
     Ok([one, other])
 }
 
-// Checks the servers of these groups in the background, and makes requests meanwhile.
-fn serve<R, C>(
-    rt: &R,
-    registry: Arc<Registry<C>>,
-    groups: &[Group<C>; 2],
-    server: R::Listener,
-) -> Result<(), anyhow::Error>
-where
-    R: Log + Net + Threads + Wait + Clock + Print + AllocGlobal + Copy + Sync,
-    C: HealthCheck + Drop + Send + Sync,
-{
-    let (mut signal, watch) = shutdown_pair(rt.alloc())?;
-    let mut service = HealthCheckService::new(registry);
-    service.health_check_frequency = Some(100_000_000);
-    run_beside(rt, &service, groups, server, &mut signal, &watch)
-}
-
 /// Runs two groups over one registry with this check and one gate, and prints how many servers their requests went to: with all servers,
 /// without the one of both, with all again.
 pub fn run<R, C>(rt: &R, check: C) -> Result<(), anyhow::Error>
@@ -206,5 +189,8 @@ where
     let registry = Arc::new(alloc, registry)?;
     registry.set_health_check(rt, check)?;
     let groups = groups_over(*rt, (&first, &both, &last), &registry)?;
-    serve(rt, registry, &groups, both)
+    let (mut signal, watch) = shutdown_pair(alloc)?;
+    let mut service = HealthCheckService::new(registry);
+    service.health_check_frequency = Some(100_000_000);
+    run_beside(rt, &service, &groups, both, &mut signal, &watch)
 }

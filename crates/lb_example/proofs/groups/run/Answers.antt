@@ -1,5 +1,5 @@
 -- What crosses to the thread of the service: the bounds of this function say it.
-use Rattle.lb_example.proofs.groups.serve.Goals as goal
+use Rattle.lb_example.proofs.groups.run.Goals as goal
 
 pub run_beside-requires-send-C : goal.run_beside-requires-send-C
 run_beside-requires-send-C g c κs within = c.type_bounds.send-C
