@@ -69,15 +69,15 @@ count() {
     failed=$((failed + ${last#* }))
 }
 
-# Copies the repository with the libraries that were proved; each crate named gets its edits in place of those that the gate tries.
+# Copies the repository with the libraries that were proved, but none of the edits that the gate tries; each crate named gets its own.
 copy() {
     local crate
     mkdir "$room/copy"
     tar -cf - --exclude='crates/*/out/incremental' crates crates.txt | tar -xf - -C "$room/copy"
     [ ! -e HANDLES ] || cp HANDLES "$room/copy"
     git -C "$room/copy" init --quiet
+    rm -rf "$room/copy"/crates/*/must-fail
     for crate in "${crates[@]}"; do
-        rm -rf "$room/copy/crates/$crate/must-fail"
         cp -r "tests/edits/$crate" "$room/copy/crates/$crate/must-fail"
     done
 }
