@@ -1,7 +1,9 @@
 //! Two groups of two slots on one gate, whose selectors are counted, and threads that update them, select from them and read them.
 ghost use Rattle.std.specs.Prelude.{◌≡◌};
 
+use crate::calls::{AskedGroup, GroupByPasses, HasWorkers};
 use crate::counted::{Counted, Counting, Counts};
+use crate::group_asks;
 use lb_balancer_core::configured::Configured;
 use lb_balancer_group::gate_refusal::GateRefusal;
 use lb_balancer_group::group::LoadBalancerGroup;
@@ -127,11 +129,6 @@ impl<W: Wait + Clock + Copy + Drop> Crowd<W> {
         })
     }
 
-    /// Returns the groups themselves.
-    pub fn groups(&self) -> [&Group<W>; 2] {
-        [&**self.first.shared(), &**self.second.shared()]
-    }
-
     /// Drops both handles, and tells what the groups leave: whether both are gone, their workers end within that many turns of ten
     /// milliseconds, no more selectors than the slots and one ever lived, the permit is back, no selector lives on, and the registry has
     /// no backend to check.
@@ -213,16 +210,10 @@ pub fn one_backend(alloc: Global, weight: usize) -> Result<DiscoverySource<Stati
 const READINGS: u64 = 1_000_000_000;
 
 /// Updates a new group by a pass so many times, each time to another membership; whether each was the next generation.
-pub fn update_often<
-    S: BackendSelection,
-    R: KeyRule + Drop,
-    C: HealthCheck + Drop,
-    W: Wait + Clock,
-    K: MomentSource,
->(
+pub fn update_often<G: GroupByPasses, W: Wait + Clock, K: MomentSource>(
     rt: &W,
     alloc: Global,
-    group: &SharedGroup<S, R, C>,
+    group: &G,
     times: u64,
     clock: &mut K,
 ) -> Result<bool, Refusal> {
@@ -235,37 +226,30 @@ pub fn update_often<
         }
         thread::sleep(rt, Duration::from_millis(2));
     }
-    Ok(group.backend_generation_as(&mut pass) == times)
+    let (newest, _) = group.reads(0, &mut pass);
+    Ok(newest == times)
 }
 
 // Selects from each of the two slots; whether neither was refused.
-fn selects_both<S: BackendSelection, R: KeyRule + Drop, C: HealthCheck + Drop, W: Wait>(
-    rt: &W,
-    alloc: Global,
-    group: &SharedGroup<S, R, C>,
-) -> bool {
+fn selects_both<G: AskedGroup, W: Wait>(rt: &W, alloc: Global, group: &G) -> bool {
     select_one(rt, alloc, group, 0).is_ok() && select_one(rt, alloc, group, 1).is_ok()
 }
 
-// The newest generation and what slot 0 serves, as a pass reads them by a function that may not wait.
-fn read<S: BackendSelection, R: KeyRule + Drop, C: HealthCheck + Drop>(
-    group: &SharedGroup<S, R, C>,
-    pass: &mut GroupPass,
-) -> (u64, u64)
-    requires { pass.old.board ≡ group.now.board }
-    ensures { pass.new.board ≡ group.now.board }
+// The newest generation, and what slot 0 serves, as a pass reads them.
+fn read<G: GroupByPasses>(group: &G, pass: &mut GroupPass) -> (u64, u64)
+    requires { pass.old.board ≡ G.board group.now }
+    ensures { pass.new.board ≡ G.board group.now }
 {
-    let newest = group.backend_generation_as(pass);
-    let served = group.selector_generation_as(0, pass).unwrap_or(0);
-    (newest, served)
+    let (newest, served) = group.reads(0, pass);
+    (newest, served.unwrap_or(0))
 }
 
 // Selects from each slot so many times, and reads meanwhile by a pass, and by another that met it, until slot 0 serves that generation:
 // whether it came to that, no selection was refused, and no reading was below an earlier one of its pass or of the pass that it met.
-fn selects_and_reads<S: BackendSelection, R: KeyRule + Drop, C: HealthCheck + Drop, W: Wait>(
+fn selects_and_reads<G: GroupByPasses, W: Wait>(
     rt: &W,
     alloc: Global,
-    group: &SharedGroup<S, R, C>,
+    group: &G,
     selections: u64,
     last: u64,
 ) -> bool {
@@ -293,20 +277,13 @@ fn selects_and_reads<S: BackendSelection, R: KeyRule + Drop, C: HealthCheck + Dr
 }
 
 /// Selects one of the ready backends of a slot.
-pub fn select_one<S: BackendSelection, R: KeyRule + Drop, C: HealthCheck + Drop, W: Wait>(
+pub fn select_one<G: AskedGroup, W: Wait>(
     rt: &W,
     alloc: Global,
-    group: &SharedGroup<S, R, C>,
+    group: &G,
     slot: usize,
 ) -> Result<Option<Backend>, Refusal> {
-    group.select_with(
-        rt,
-        alloc,
-        slot,
-        b"k",
-        4,
-        &|_backend: &Backend, ready: bool| ready,
-    )
+    group.select_with(rt, alloc, slot, &|_backend: &Backend, ready: bool| ready)
 }
 
 /// Grants the permit where it is there, and gives it back; whether it was there.
@@ -321,11 +298,7 @@ pub fn is_free<W: Wait>(rt: &W, gate: &SelectorRebuildGate) -> bool {
 }
 
 /// Returns whether that many turns of ten milliseconds are enough until a group has no worker any more.
-pub fn ends<S: BackendSelection, R: KeyRule + Drop, C: HealthCheck + Drop, W: Wait + Clock>(
-    rt: &W,
-    group: &SharedGroup<S, R, C>,
-    turns: u64,
-) -> bool {
+pub fn ends<G: HasWorkers, W: Clock>(rt: &W, group: &G, turns: u64) -> bool {
     for _ in 0..turns {
         if group.worker_count() == 0 {
             return true;
@@ -336,15 +309,16 @@ pub fn ends<S: BackendSelection, R: KeyRule + Drop, C: HealthCheck + Drop, W: Wa
 }
 
 /// Returns whether a slot serves that generation within that many turns of ten milliseconds.
-pub fn serves<S: BackendSelection, R: KeyRule + Drop, C: HealthCheck + Drop, W: Wait + Clock>(
+pub fn serves<G: AskedGroup, W: Wait + Clock>(
     rt: &W,
-    group: &SharedGroup<S, R, C>,
+    alloc: Global,
+    group: &G,
     slot: usize,
     generation: u64,
     turns: u64,
 ) -> bool {
     for _ in 0..turns {
-        if group.selector_generation(rt, slot) == Some(generation) {
+        if group_asks::served(rt, alloc, group, slot) == Some(generation) {
             return true;
         }
         thread::sleep(rt, Duration::from_millis(10));
@@ -355,27 +329,15 @@ pub fn serves<S: BackendSelection, R: KeyRule + Drop, C: HealthCheck + Drop, W: 
 // Starts a thread that selects so many times, and reads until slot 0 serves that generation; it answers as `selects_and_reads`. None where
 // it can't be started.
 fn starts_reader<
-    S: BackendSelection + Send + Sync + 'static,
-    R: KeyRule + Drop + Send + Sync + 'static,
-    C: HealthCheck + Drop + Send + Sync + 'static,
+    G: GroupByPasses + Drop + Send + Sync + 'static,
     W: Threads + Wait + Copy + Send + 'static,
->(
-    rt: &W,
-    alloc: Global,
-    group: &Arc<SharedGroup<S, R, C>>,
-    selections: u64,
-    last: u64,
-) -> Option<JoinHandle<bool>>
-where
-    S::Config: Send + Sync + 'static,
-    S::Walk: Send + Sync + 'static,
-{
+>(rt: &W, alloc: Global, group: &Arc<G>, selections: u64, last: u64) -> Option<JoinHandle<bool>> {
     let shared = Arc::try_clone(group).ok()?;
     let own = *rt;
-    let started = thread::spawn(rt, move || {
-        let group: &SharedGroup<S, R, C> = &*shared;
-        selects_and_reads(&own, alloc, group, selections, last)
-    });
+    let started = thread::spawn(
+        rt,
+        move || selects_and_reads(&own, alloc, &*shared, selections, last),
+    );
     started.ok()
 }
 
@@ -391,24 +353,18 @@ fn joined<W: Threads>(rt: &W, reader: Option<JoinHandle<bool>>) -> bool {
 /// caller's updates both so many times and their workers build; whether nothing was refused, each update was the next generation, and no
 /// reading fell.
 pub fn crowd_in<
-    S: BackendSelection + Send + Sync + 'static,
-    R: KeyRule + Drop + Send + Sync + 'static,
-    C: HealthCheck + Drop + Send + Sync + 'static,
+    G: GroupByPasses + Drop + Send + Sync + 'static,
     W: Threads + Wait + Clock + Copy + Send + 'static,
     K: MomentSource,
 >(
     rt: &W,
     alloc: Global,
-    first: &Arc<SharedGroup<S, R, C>>,
-    second: &Arc<SharedGroup<S, R, C>>,
+    first: &Arc<G>,
+    second: &Arc<G>,
     selections: u64,
     updates: u64,
     clock: &mut K,
-) -> bool
-where
-    S::Config: Send + Sync + 'static,
-    S::Walk: Send + Sync + 'static,
-{
+) -> bool {
     let one = starts_reader(rt, alloc, first, selections, updates);
     let two = starts_reader(rt, alloc, second, selections, updates);
     let three = starts_reader(rt, alloc, first, selections, updates);

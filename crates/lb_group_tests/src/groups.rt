@@ -13,11 +13,16 @@ mod turns;
 mod waking;
 
 use crate::asserted::assert_same;
-use lb_crowd::crowd::{Crowd, Handle, Registry};
+use crate::groups::moments::At;
+use lb_crowd::calls::{GroupByPasses, GroupWithReaders, HandleByPasses};
+use lb_crowd::counted::Counts;
+use lb_crowd::crowd::{Crowd, Registry};
 use log::Log;
+use pingora_load_balancing::background::RuntimeClock;
+use pingora_load_balancing::discovery::ServiceDiscovery;
 use pingora_load_balancing::health_check::{HealthCheck, KeyRule};
 use pingora_load_balancing::selection::BackendSelection;
-use pingora_load_balancing::{HealthRegistry, SharedGroup};
+use pingora_load_balancing::{HealthRegistry, LoadBalancerGroup, SelectorRebuildGate, SharedGroup};
 use std::alloc::Global;
 use std::process::Abort;
 use std::sync::{Arc, Wait};
@@ -30,11 +35,24 @@ const TURNS: u64 = 1000;
 // More cells than all cases together start: each update to another membership starts one.
 const CELLS: u64 = 1000;
 
-// The cases, each as the function of its name tells it: of the first group's handle, of both groups with their handles, or of groups alone.
+// The cases, each as the function of its name says it: of four threads that select from a pair of groups, or of calls.
 #[derive(Clone, Copy, Debug)]
 enum Row {
+    Crowd(OfCrowd),
+    Calls(ByCalls),
+}
+
+#[derive(Clone, Copy, Debug)]
+enum OfCrowd {
+    ServedInACrowd,
+    AtTheLastMoment,
+}
+
+// Calls of the first group's handle, of a pair of groups with their handles, or of groups alone.
+#[derive(Clone, Copy, Debug)]
+enum ByCalls {
     OfHandle(OfHandle),
-    OfCrowd(OfCrowd),
+    OfPair(OfPair),
     OfGroups(OfGroups),
 }
 
@@ -48,13 +66,11 @@ enum OfHandle {
 }
 
 #[derive(Clone, Copy, Debug)]
-enum OfCrowd {
-    ServedInACrowd,
+enum OfPair {
     SelectsBesideABuild,
     CancelsABuild,
     LastReaderWakes,
     RebuildsGoOn,
-    AtTheLastMoment,
     SelectsWhileTheRegistryIsHeld,
 }
 
@@ -69,85 +85,96 @@ enum OfGroups {
     TicketsOfEach,
 }
 
-const ROWS: [Row; 19] = [
-    Row::OfHandle(OfHandle::WithoutWorkers),
-    Row::OfHandle(OfHandle::WithWorkers),
-    Row::OfHandle(OfHandle::StartsButOne),
-    Row::OfHandle(OfHandle::RefusedOnce),
-    Row::OfHandle(OfHandle::ReaderStays),
-    Row::OfCrowd(OfCrowd::ServedInACrowd),
-    Row::OfCrowd(OfCrowd::SelectsBesideABuild),
-    Row::OfCrowd(OfCrowd::CancelsABuild),
-    Row::OfCrowd(OfCrowd::LastReaderWakes),
-    Row::OfCrowd(OfCrowd::RebuildsGoOn),
-    Row::OfCrowd(OfCrowd::AtTheLastMoment),
-    Row::OfCrowd(OfCrowd::SelectsWhileTheRegistryIsHeld),
-    Row::OfGroups(OfGroups::TurnsOnOneGate),
-    Row::OfGroups(OfGroups::WorkerOfOneLetGo),
-    Row::OfGroups(OfGroups::ClockGoesBack),
-    Row::OfGroups(OfGroups::CancelledWhileRead),
-    Row::OfGroups(OfGroups::ReadyWhileBehind),
-    Row::OfGroups(OfGroups::RetiredWhileSelected),
-    Row::OfGroups(OfGroups::TicketsOfEach),
+const ROWS: &[Row] = &[
+    Row::Calls(ByCalls::OfHandle(OfHandle::WithoutWorkers)),
+    Row::Calls(ByCalls::OfHandle(OfHandle::WithWorkers)),
+    Row::Calls(ByCalls::OfHandle(OfHandle::StartsButOne)),
+    Row::Calls(ByCalls::OfHandle(OfHandle::RefusedOnce)),
+    Row::Calls(ByCalls::OfHandle(OfHandle::ReaderStays)),
+    Row::Crowd(OfCrowd::ServedInACrowd),
+    Row::Crowd(OfCrowd::AtTheLastMoment),
+    Row::Calls(ByCalls::OfPair(OfPair::SelectsBesideABuild)),
+    Row::Calls(ByCalls::OfPair(OfPair::CancelsABuild)),
+    Row::Calls(ByCalls::OfPair(OfPair::LastReaderWakes)),
+    Row::Calls(ByCalls::OfPair(OfPair::RebuildsGoOn)),
+    Row::Calls(ByCalls::OfPair(OfPair::SelectsWhileTheRegistryIsHeld)),
+    Row::Calls(ByCalls::OfGroups(OfGroups::TurnsOnOneGate)),
+    Row::Calls(ByCalls::OfGroups(OfGroups::WorkerOfOneLetGo)),
+    Row::Calls(ByCalls::OfGroups(OfGroups::ClockGoesBack)),
+    Row::Calls(ByCalls::OfGroups(OfGroups::CancelledWhileRead)),
+    Row::Calls(ByCalls::OfGroups(OfGroups::ReadyWhileBehind)),
+    Row::Calls(ByCalls::OfGroups(OfGroups::RetiredWhileSelected)),
+    Row::Calls(ByCalls::OfGroups(OfGroups::TicketsOfEach)),
 ];
 
-// Plays a case of a handle, of whose group no worker was started before.
-fn play_handle<W: Abort + Log + Threads + Wait + Clock + Copy + Send + Sync + Drop + 'static>(
-    rt: &W,
-    alloc: Global,
-    handle: &Handle<W>,
-    case: OfHandle,
-) {
+// Two groups on one gate with their handles, and what they share.
+#[derive(Drop)]
+struct Pair<'p, H, G, W> {
+    first: &'p H,
+    second: &'p H,
+    group: &'p Arc<G>,
+    other: &'p Arc<G>,
+    counts: &'p Counts<W>,
+    gate: &'p SelectorRebuildGate,
+    registry: &'p Registry,
+}
+
+// Plays a case of a handle, of whose group no worker was started before. `starts` starts those of a group by its place.
+fn play_handle<
+    H: HandleByPasses,
+    G: GroupWithReaders,
+    W: Abort + Wait + Clock + Copy + Drop,
+    F: Fn(usize) -> usize,
+>(rt: &W, alloc: Global, handle: &H, group: &G, starts: &F, case: OfHandle)
+    requires { F.IsAlwaysCallable starts.now }
+{
     match case {
-        OfHandle::WithoutWorkers => handles::without_workers(rt, alloc, handle),
-        OfHandle::WithWorkers => passes::with_workers(rt, alloc, handle),
-        OfHandle::StartsButOne => handles::starts_but_one(rt, alloc, handle),
+        OfHandle::WithoutWorkers => handles::without_workers(rt, alloc, handle, group),
+        OfHandle::WithWorkers => passes::with_workers(rt, alloc, handle, starts),
+        OfHandle::StartsButOne => handles::starts_but_one(rt, alloc, handle, group, starts),
         OfHandle::RefusedOnce => {
-            turns::refused_once(rt, alloc, &**handle.shared());
-            handles::counts(rt, handle, 0, [0, 1]);
+            turns::refused_once(rt, alloc, group);
+            handles::counts(rt, alloc, handle, 0, [0, 1]);
         }
         OfHandle::ReaderStays => {
-            staying::reader_stays(rt, alloc, &**handle.shared());
-            handles::counts(rt, handle, 1, [2, 0]);
+            staying::reader_stays(rt, alloc, group);
+            handles::counts(rt, alloc, handle, 1, [2, 0]);
         }
     }
 }
 
-// Plays a case of a crowd, of which no worker was started before.
-fn play_crowd<W: Abort + Log + Threads + Wait + Clock + Copy + Send + Sync + Drop + 'static>(
-    rt: &W,
-    alloc: Global,
-    crowd: &Crowd<W>,
-    case: OfCrowd,
-) {
+// Plays a case of a pair, of which no worker was started before.
+fn play_pair<
+    H: HandleByPasses + Sync,
+    G: GroupWithReaders,
+    W: Abort + Threads + Wait + Clock + Copy + Send + Sync + 'static,
+    F: Fn(usize) -> usize,
+>(rt: &W, alloc: Global, pair: &Pair<'_, H, G, W>, starts: &F, case: OfPair)
+    requires { F.IsAlwaysCallable starts.now }
+{
+    let (handle, group) = (pair.first, &**pair.group);
     match case {
-        OfCrowd::ServedInACrowd => builds::served_in_a_crowd(rt, alloc, crowd),
-        OfCrowd::SelectsBesideABuild => builds::selects_beside_a_build(rt, alloc, crowd),
-        OfCrowd::CancelsABuild => builds::cancels_a_build(rt, alloc, crowd),
-        OfCrowd::LastReaderWakes => waking::last_reader_wakes(rt, alloc, crowd),
-        OfCrowd::RebuildsGoOn => waking::rebuilds_go_on(rt, alloc, crowd),
-        OfCrowd::AtTheLastMoment => moments::at_the_last_moment(rt, alloc, crowd),
-        OfCrowd::SelectsWhileTheRegistryIsHeld => {
-            let (handle, registry) = (&crowd.first, &*crowd.site.registry);
-            staying::selects_while_the_registry_is_held(rt, alloc, handle, registry)
+        OfPair::SelectsBesideABuild => builds::selects_beside_a_build(rt, alloc, pair, starts),
+        OfPair::CancelsABuild => builds::cancels_a_build(rt, alloc, pair, starts),
+        OfPair::LastReaderWakes => {
+            waking::last_reader_wakes(rt, alloc, group, pair.gate, starts)
+        }
+        OfPair::RebuildsGoOn => waking::rebuilds_go_on(rt, alloc, group, starts),
+        OfPair::SelectsWhileTheRegistryIsHeld => {
+            staying::selects_while_the_registry_is_held(rt, alloc, handle, group, pair.registry)
         }
     }
 }
 
 // Plays a case of two groups that have no workers.
-fn play_groups<
-    S: BackendSelection,
-    R: KeyRule + Drop,
-    C: HealthCheck + Drop,
-    W: Abort + Log + Wait,
->(
+fn play_groups<G: GroupWithReaders, W: Abort + Log + Wait>(
     rt: &W,
     alloc: Global,
-    groups: [&SharedGroup<S, R, C>; 2],
-    registry: &HealthRegistry<R, C>,
+    first: &G,
+    second: &G,
+    registry: &Registry,
     case: OfGroups,
 ) {
-    let [first, second] = groups;
     match case {
         OfGroups::TurnsOnOneGate => turns::turns_on_one_gate(rt, alloc, first, second),
         OfGroups::WorkerOfOneLetGo => turns::worker_of_one_let_go(rt, alloc, first),
@@ -161,20 +188,82 @@ fn play_groups<
     }
 }
 
-// Plays a case. No worker of the groups was started before.
-fn play<W: Abort + Log + Threads + Wait + Clock + Copy + Send + Sync + Drop + 'static>(
+// Plays a case by calls. No worker of the groups was started before.
+fn play_calls<
+    H: HandleByPasses + Sync,
+    G: GroupWithReaders,
+    W: Abort + Log + Threads + Wait + Clock + Copy + Send + Sync + Drop + 'static,
+    F: Fn(usize) -> usize,
+>(rt: &W, alloc: Global, pair: &Pair<'_, H, G, W>, starts: &F, case: ByCalls)
+    requires { F.IsAlwaysCallable starts.now }
+{
+    let (group, other) = (&**pair.group, &**pair.other);
+    match case {
+        ByCalls::OfHandle(case) => play_handle(rt, alloc, pair.first, group, starts, case),
+        ByCalls::OfPair(case) => play_pair(rt, alloc, pair, starts, case),
+        ByCalls::OfGroups(case) => play_groups(rt, alloc, group, other, pair.registry, case),
+    }
+}
+
+// Plays a case of a crowd of threads. No worker of the groups was started before.
+fn play_crowd<
+    H,
+    G: GroupByPasses + Drop + Send + Sync + 'static,
+    W: Abort + Threads + Wait + Clock + Copy + Send + 'static,
+    F: Fn(usize) -> usize,
+>(rt: &W, alloc: Global, pair: &Pair<'_, H, G, W>, starts: &F, case: OfCrowd)
+    requires { F.IsAlwaysCallable starts.now }
+{
+    match case {
+        OfCrowd::ServedInACrowd => builds::served_in_a_crowd(rt, alloc, pair, starts),
+        OfCrowd::AtTheLastMoment => moments::at_the_last_moment(rt, alloc, pair, starts),
+    }
+}
+
+// Plays a case of groups of these types.
+fn play_groups_of<
+    H: HandleByPasses + Sync,
+    T: BackendSelection + Send + Sync + 'static,
+    R: KeyRule + Drop + Send + Sync + 'static,
+    C: HealthCheck + Drop + Send + Sync + 'static,
+    W: Abort + Log + Threads + Wait + Clock + Copy + Send + Sync + Drop + 'static,
+    F: Fn(usize) -> usize,
+>(rt: &W, alloc: Global, pair: &Pair<'_, H, SharedGroup<T, R, C>, W>, starts: &F, row: Row)
+where
+    T::Config: Send + Sync + 'static,
+    T::Walk: Send + Sync + 'static,
+    requires { F.IsAlwaysCallable starts.now }
+{
+    match row {
+        Row::Crowd(case) => play_crowd(rt, alloc, pair, starts, case),
+        Row::Calls(case) => play_calls(rt, alloc, pair, starts, case),
+    }
+}
+
+// Plays a case of groups and handles of these types.
+fn play_on<
+    S: BackendSelection + Send + Sync + 'static,
+    D: ServiceDiscovery + Drop + Send + Sync + 'static,
+    T: BackendSelection + Send + Sync + 'static,
+    R: KeyRule + Drop + Send + Sync + 'static,
+    C: HealthCheck + Drop + Send + Sync + 'static,
+    W: Abort + Log + Threads + Wait + Clock + Copy + Send + Sync + Drop + 'static,
+    F: Fn(usize) -> usize,
+>(
     rt: &W,
     alloc: Global,
-    crowd: &Crowd<W>,
+    pair: &Pair<'_, LoadBalancerGroup<S, D, R, C>, SharedGroup<T, R, C>, W>,
+    starts: &F,
     row: Row,
-) {
-    match row {
-        Row::OfHandle(case) => play_handle(rt, alloc, &crowd.first, case),
-        Row::OfCrowd(case) => play_crowd(rt, alloc, crowd, case),
-        Row::OfGroups(case) => {
-            play_groups(rt, alloc, crowd.groups(), &*crowd.site.registry, case)
-        }
-    }
+)
+where
+    S::Config: Send + Sync + 'static,
+    S::Walk: Send + Sync + 'static,
+    T::Config: Send + Sync + 'static,
+    T::Walk: Send + Sync + 'static,
+    requires { F.IsAlwaysCallable starts.now }
+{
+    play_groups_of(rt, alloc, pair, starts, row);
 }
 
 // How many cells are kept and healthy, of those that there can be.
@@ -188,6 +277,25 @@ fn kept<W: Wait>(rt: &W, registry: &Registry) -> u64 {
     kept
 }
 
+// Starts the workers of a group, by its place, with the clock that the row wants; how many couldn't be started.
+fn started<W: Log + Threads + Wait + Clock + Copy + Send + Sync + Drop + 'static>(
+    rt: &W,
+    alloc: Global,
+    crowd: &Crowd<W>,
+    place: usize,
+    row: Row,
+) -> usize {
+    let group = if place == 0 {
+        &crowd.first
+    } else {
+        &crowd.second
+    };
+    match row {
+        Row::Crowd(OfCrowd::AtTheLastMoment) => group.start_workers(rt, alloc, At::last()),
+        _ => group.start_workers(rt, alloc, RuntimeClock::new(*rt)),
+    }
+}
+
 // Plays a case, drops both handles then, and looks at what the groups leave: the registry keeps no cell for them.
 fn played<W: Abort + Log + Threads + Wait + Clock + Copy + Send + Sync + Drop + 'static>(
     rt: &W,
@@ -196,7 +304,18 @@ fn played<W: Abort + Log + Threads + Wait + Clock + Copy + Send + Sync + Drop + 
     row: Row,
 ) {
     let crowd = Crowd::new(*rt, alloc, registry).expect(rt, "refused");
-    play(rt, alloc, &crowd, row);
+    let site = &crowd.site;
+    let pair = Pair {
+        first: &crowd.first,
+        second: &crowd.second,
+        group: crowd.first.shared(),
+        other: crowd.second.shared(),
+        counts: &*site.counts,
+        gate: &*site.gate,
+        registry: &**registry,
+    };
+    let starts = |place: usize| started(rt, alloc, &crowd, place, row);
+    play_on(rt, alloc, &pair, &starts, row);
     let left = crowd.leave(rt, alloc, TURNS).expect(rt, "refused");
     let told = (left, kept(rt, &**registry));
     assert_same(rt, &told, &([true; 6], 0), &row);
@@ -207,7 +326,7 @@ fn rows_of_groups(rt: HostRuntime) {
     let alloc = rt.alloc();
     let registry = HealthRegistry::new(alloc).expect(&rt, "refused");
     let registry = Arc::new(alloc, registry).expect(&rt, "refused");
-    for row in &ROWS {
+    for row in ROWS {
         played(&rt, alloc, &registry, *row);
     }
 }

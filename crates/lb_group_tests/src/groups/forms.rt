@@ -2,8 +2,10 @@
 //! Threads select from all of them while others update them, set flags and loads, and flip the health of their backends; one group is
 //! cancelled while the others go on, and all are dropped then.
 use super::TURNS;
+use lb_crowd::calls::AskedHandle;
 use lb_crowd::counted::{Counted, Counting};
-use lb_crowd::crowd::{NoCheck, Registry, Site, ends, is_free, lives_none, serves};
+use lb_crowd::crowd::{NoCheck, Registry, Site, ends, is_free, lives_none};
+use lb_crowd::handle_asks;
 use log::Log;
 use pingora_load_balancing::background::RuntimeClock;
 use pingora_load_balancing::discovery::{Discovered, DiscoverySource, ServiceDiscovery, Settings};
@@ -24,7 +26,7 @@ use std::thread::Threads;
 use std::time::{Clock, Duration};
 
 // A group for each.
-const FORMS: [Kind; 5] = [
+const FORMS: &[Kind] = &[
     Kind::Fnv,
     Kind::RoundRobin,
     Kind::Ketama,
@@ -153,23 +155,23 @@ impl Tally {
 
 // Selects from a group between two readings of what it serves; whether these aren't below an earlier one of any thread, and what was found
 // is a member of a membership that was served since.
-fn is_right<
-    S: BackendSelection,
-    D: ServiceDiscovery + Drop,
-    R: KeyRule + Drop,
-    C: HealthCheck + Drop,
-    W: Wait,
->(rt: &W, alloc: Global, group: &LoadBalancerGroup<S, D, R, C>, key: u64, seen: &Seen) -> bool {
+fn is_right<H: AskedHandle, W: Wait>(
+    rt: &W,
+    alloc: Global,
+    group: &H,
+    key: u64,
+    seen: &Seen,
+) -> bool {
     let least = seen.served.load(SeqCst);
-    let before = group.selector_generation(rt, 0).unwrap_or(0);
-    let found = group.select(rt, alloc, 0, &key.to_le_bytes(), 4);
-    let after = group.selector_generation(rt, 0).unwrap_or(0);
+    let before = handle_asks::served(rt, alloc, group, 0).unwrap_or(0);
+    let found = handle_asks::select(rt, alloc, group, 0, &key.to_le_bytes());
+    let after = handle_asks::served(rt, alloc, group, 0).unwrap_or(0);
     seen.served.fetch_max(after, SeqCst);
     let is_later = least <= before && before <= after;
     match found {
         Ok(Some(backend)) => {
             seen.selected.fetch_add(1, SeqCst);
-            let newest = group.backend_generation(rt);
+            let newest = handle_asks::newest(rt, alloc, group).unwrap_or(0);
             is_later && is_member(alloc, &backend, before, newest)
         }
         Ok(None) => is_later,
@@ -178,16 +180,10 @@ fn is_right<
 }
 
 // Selects once from each group; whether all was right.
-fn selects<
-    S: BackendSelection,
-    D: ServiceDiscovery + Drop,
-    R: KeyRule + Drop,
-    C: HealthCheck + Drop,
-    W: Wait,
->(
+fn selects<H: AskedHandle, W: Wait>(
     rt: &W,
     alloc: Global,
-    groups: &[LoadBalancerGroup<S, D, R, C>],
+    groups: &[H],
     turn: u64,
     all_seen: &[Seen],
 ) -> bool {
@@ -200,17 +196,12 @@ fn selects<
 }
 
 // Sets a flag and a load of a backend of each group's newest membership; whether none was refused.
-fn marks<
-    S: BackendSelection,
-    D: ServiceDiscovery + Drop,
-    R: KeyRule + Drop,
-    C: HealthCheck + Drop,
-    W: Wait,
->(rt: &W, alloc: Global, groups: &[LoadBalancerGroup<S, D, R, C>], turn: u64) -> bool {
+fn marks<H: AskedHandle, W: Wait>(rt: &W, alloc: Global, groups: &[H], turn: u64) -> bool {
     for group in groups {
-        let backend = member_of(alloc, group.backend_generation(rt), (turn % 4) as u32);
-        group.backends().set_enable(rt, &backend, turn % 3 != 0);
-        if group.set_load(rt, alloc, &backend, turn).is_err() {
+        let newest = handle_asks::newest(rt, alloc, group).unwrap_or(0);
+        let backend = member_of(alloc, newest, (turn % 4) as u32);
+        handle_asks::set_enable(rt, alloc, group, &backend, turn % 3 != 0);
+        if handle_asks::set_load(rt, alloc, group, &backend, turn).is_err() {
             return false;
         }
     }
@@ -237,30 +228,35 @@ fn flips<R: KeyRule + Drop, C: HealthCheck + Drop, W: Wait>(
     true
 }
 
+// Whether a group comes to serve its last update within a thousand turns of ten milliseconds.
+fn serves_last<H: AskedHandle, W: Wait + Clock>(rt: &W, alloc: Global, group: &H) -> bool {
+    for _ in 0..TURNS {
+        if handle_asks::served(rt, alloc, group, 0) == Some(UPDATES) {
+            return true;
+        }
+        thread::sleep(rt, Duration::from_millis(10));
+    }
+    false
+}
+
 // Updates all groups, time after time, and cancels one in the midst; whether each update was the next generation, those of the cancelled
 // group were refused, and the others came to serve the last generation.
-fn updates<
-    S: BackendSelection,
-    D: ServiceDiscovery + Drop,
-    R: KeyRule + Drop,
-    C: HealthCheck + Drop,
-    W: Wait + Clock + Copy,
->(rt: &W, alloc: Global, groups: &[LoadBalancerGroup<S, D, R, C>]) -> bool {
+fn updates<H: AskedHandle, W: Wait + Clock + Copy>(rt: &W, alloc: Global, groups: &[H]) -> bool {
     for time in 0..UPDATES {
         for (place, group) in groups.iter().enumerate() {
             let mut wanted = Ok(time + 1);
             if place == CANCELLED && time >= CANCELLED_AFTER {
-                group.cancel(rt);
+                handle_asks::cancel(rt, alloc, group);
                 wanted = Err(Refusal::GroupCancelled);
             }
-            if group.update(rt, alloc, &mut RuntimeClock::new(*rt)) != wanted {
+            if handle_asks::update(rt, alloc, group, &mut RuntimeClock::new(*rt)) != wanted {
                 return false;
             }
         }
         thread::sleep(rt, Duration::from_millis(10));
     }
     for (place, group) in groups.iter().enumerate() {
-        if place != CANCELLED && !serves(rt, &**group.shared(), 0, UPDATES, TURNS) {
+        if place != CANCELLED && !serves_last(rt, alloc, group) {
             return false;
         }
     }
@@ -268,16 +264,10 @@ fn updates<
 }
 
 // Does the part of a thread of this number, turn by turn, until the updates are over; whether all was right.
-fn goes_on<
-    S: BackendSelection,
-    D: ServiceDiscovery + Drop,
-    R: KeyRule + Drop,
-    C: HealthCheck + Drop,
-    W: Wait + Clock,
->(
+fn goes_on<H: AskedHandle, R: KeyRule + Drop, C: HealthCheck + Drop, W: Wait + Clock>(
     rt: &W,
     alloc: Global,
-    groups: &[LoadBalancerGroup<S, D, R, C>],
+    groups: &[H],
     registry: &HealthRegistry<R, C>,
     tally: &Tally,
     thread: usize,
@@ -300,16 +290,10 @@ fn goes_on<
 }
 
 // What a thread does; whether all was right. The first one updates, and ends the others.
-fn part<
-    S: BackendSelection,
-    D: ServiceDiscovery + Drop,
-    R: KeyRule + Drop,
-    C: HealthCheck + Drop,
-    W: Wait + Clock + Copy,
->(
+fn part<H: AskedHandle, R: KeyRule + Drop, C: HealthCheck + Drop, W: Wait + Clock + Copy>(
     rt: &W,
     alloc: Global,
-    groups: &[LoadBalancerGroup<S, D, R, C>],
+    groups: &[H],
     registry: &HealthRegistry<R, C>,
     tally: &Tally,
     thread: usize,
@@ -324,22 +308,11 @@ fn part<
 
 // All threads do their parts; whether all was right in each.
 fn are_right<
-    S: BackendSelection + Send + Sync,
-    D: ServiceDiscovery + Drop + Send + Sync,
+    H: AskedHandle + Sync,
     R: KeyRule + Drop + Send + Sync,
     C: HealthCheck + Drop + Send + Sync,
     W: Threads + Wait + Clock + Copy + Sync,
->(
-    rt: &W,
-    alloc: Global,
-    groups: &[LoadBalancerGroup<S, D, R, C>],
-    registry: &HealthRegistry<R, C>,
-    tally: &Tally,
-) -> bool
-where
-    S::Config: Send + Sync,
-    S::Walk: Send + Sync,
-{
+>(rt: &W, alloc: Global, groups: &[H], registry: &HealthRegistry<R, C>, tally: &Tally) -> bool {
     let parts = thread::map_indices(
         rt,
         alloc,
@@ -352,24 +325,29 @@ where
     }
 }
 
-// Starts the workers; whether none is missing.
-fn starts<
+// Starts the workers, and has all threads do their parts; whether no worker is missing, and all was right.
+fn used<
     S: BackendSelection + Send + Sync + 'static,
-    D: ServiceDiscovery + Drop,
+    D: ServiceDiscovery + Drop + Send + Sync + 'static,
     R: KeyRule + Drop + Send + Sync + 'static,
     C: HealthCheck + Drop + Send + Sync + 'static,
-    W: Log + Threads + Wait + Clock + Copy + Send + 'static,
->(rt: &W, alloc: Global, groups: &[LoadBalancerGroup<S, D, R, C>]) -> bool
+    W: Log + Threads + Wait + Clock + Copy + Send + Sync + 'static,
+>(
+    rt: &W,
+    alloc: Global,
+    groups: &[LoadBalancerGroup<S, D, R, C>],
+    registry: &HealthRegistry<R, C>,
+    tally: &Tally,
+) -> [bool; 2]
 where
     S::Config: Send + Sync + 'static,
     S::Walk: Send + Sync + 'static,
 {
+    let mut started = true;
     for group in groups {
-        if group.start_workers(rt, alloc, RuntimeClock::new(*rt)) > 0 {
-            return false;
-        }
+        started &= group.start_workers(rt, alloc, RuntimeClock::new(*rt)) == 0;
     }
-    true
+    [started, are_right(rt, alloc, groups, registry, tally)]
 }
 
 // The groups at their site, and what the threads share.
@@ -397,7 +375,7 @@ fn forms_in<W: Abort + Wait + Clock + Copy + Drop>(
 ) -> Forms<W> {
     let site = Site::new(*rt, alloc, registry).expect(rt, "refused");
     let (mut groups, mut all_seen) = (Vec::new(alloc), Vec::new(alloc));
-    for kind in &FORMS {
+    for kind in FORMS {
         let group = group_at(rt, alloc, &site, *kind);
         groups.push(group).expect(rt, "refused");
         let seen = Seen {
@@ -440,7 +418,7 @@ fn shared_of<
 }
 
 // Whether the workers of groups whose handles are gone end.
-fn all_end<S: BackendSelection, R: KeyRule + Drop, C: HealthCheck + Drop, W: Wait + Clock>(
+fn all_end<S: BackendSelection, R: KeyRule + Drop, C: HealthCheck + Drop, W: Clock>(
     rt: &W,
     groups: &[Arc<SharedGroup<S, R, C>>],
 ) -> bool {
@@ -482,12 +460,9 @@ fn played<W: Abort + Log + Threads + Wait + Clock + Copy + Send + Sync + Drop + 
     registry: &Arc<Registry>,
 ) -> ([bool; 3], [bool; 5]) {
     let forms = forms_in(rt, alloc, registry);
-    let groups = forms.groups.as_slice();
-    let told = [
-        starts(rt, alloc, groups),
-        are_right(rt, alloc, groups, &*forms.site.registry, &forms.tally),
-        forms.tally.is_used(),
-    ];
+    let (groups, registry) = (forms.groups.as_slice(), &*forms.site.registry);
+    let [started, is_right] = used(rt, alloc, groups, registry, &forms.tally);
+    let told = [started, is_right, forms.tally.is_used()];
     (told, forms.leave(rt, alloc))
 }
 

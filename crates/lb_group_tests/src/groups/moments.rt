@@ -2,25 +2,31 @@
 ghost use Rattle.std.specs.Prelude.{◌≡◌};
 
 use crate::asserted::assert_same;
+use crate::groups::Pair;
 use crate::groups::turns::too_heavy;
-use lb_crowd::crowd::{Crowd, crowd_in, one_backend};
-use lb_crowd::turns::turn_by;
-use log::Log;
-use pingora_load_balancing::health_check::{HealthCheck, KeyRule};
+use lb_crowd::calls::{AskedGroup, GroupByPasses};
+use lb_crowd::crowd::{crowd_in, one_backend};
+use lb_crowd::group_asks;
 use pingora_load_balancing::plain::Timing;
 use pingora_load_balancing::port::Turn;
-use pingora_load_balancing::selection::BackendSelection;
-use pingora_load_balancing::{MomentSource, Refusal, SharedGroup};
+use pingora_load_balancing::{MomentSource, Refusal};
 use std::alloc::Global;
 use std::process::Abort;
 use std::sync::Wait;
 use std::thread::Threads;
 use std::time::Clock;
 
-// A clock that is at one moment.
+/// A clock that is at one moment.
 #[derive(Clone, Copy)]
-struct At {
+pub struct At {
     moment: u128,
+}
+
+impl At {
+    /// Returns a clock that is at the last moment there is.
+    pub fn last() -> At {
+        At { moment: LAST }
+    }
 }
 
 impl MomentSource for At {
@@ -44,7 +50,7 @@ const LAST: u128 = u128::MAX;
 
 // At the last moment a build that failed is due again at that moment, since none comes later. The clock goes back then: a newer generation
 // is due at once, whatever the moment, and a build that fails is due ten milliseconds after its own moment.
-const ROWS: [(u128, Done); 14] = [
+const ROWS: &[(u128, Done)] = &[
     (LAST, Done::Updated(1, 1)),
     (LAST, Done::Took(Turn::Published(1))),
     (LAST, Done::Heavy(2)),
@@ -62,39 +68,40 @@ const ROWS: [(u128, Done); 14] = [
 ];
 
 // Does what the row says, and returns what came of it.
-fn comes_of<S: BackendSelection, R: KeyRule + Drop, C: HealthCheck + Drop, W: Wait>(
+fn comes_of<G: AskedGroup, W: Wait>(
     rt: &W,
     alloc: Global,
-    group: &SharedGroup<S, R, C>,
+    group: &G,
     mut clock: At,
     row: Done,
 ) -> Result<Done, Refusal> {
     match row {
         Done::Updated(weight, _) => {
             let found = one_backend(alloc, weight)?;
-            let newest = group.update(rt, alloc, &found, &mut clock)?;
+            let newest = group_asks::update(rt, alloc, group, &found, &mut clock)?;
             Ok(Done::Updated(weight, newest))
         }
         Done::Heavy(_) => {
             let found = too_heavy(alloc)?;
-            let newest = group.update(rt, alloc, &found, &mut clock)?;
+            let newest = group_asks::update(rt, alloc, group, &found, &mut clock)?;
             Ok(Done::Heavy(newest))
         }
         Done::Took(_) => {
-            let turn = turn_by(rt, alloc, group, 0, &mut clock)?;
+            let turn = group_asks::turn(rt, alloc, group, 0, &mut clock)?;
             Ok(Done::Took(turn))
         }
     }
 }
 
+// The timing of slot 0.
+fn timing_of<G: AskedGroup, W: Wait + Abort>(rt: &W, alloc: Global, group: &G) -> Option<Timing> {
+    let told = group_asks::readings(rt, alloc, group, 0).expect(rt, "another answer");
+    told.timing.expect(rt, "no such slot")
+}
+
 /// Turns by a clock that goes back, from the last moment on; no duration is below 0.
-pub fn clock_goes_back<
-    S: BackendSelection,
-    R: KeyRule + Drop,
-    C: HealthCheck + Drop,
-    W: Wait + Abort,
->(rt: &W, alloc: Global, group: &SharedGroup<S, R, C>) {
-    for (moment, wanted) in &ROWS {
+pub fn clock_goes_back<G: AskedGroup, W: Wait + Abort>(rt: &W, alloc: Global, group: &G) {
+    for (moment, wanted) in ROWS {
         let clock = At { moment: *moment };
         let done = comes_of(rt, alloc, group, clock, *wanted);
         assert_same(rt, &done, &Ok(*wanted), wanted);
@@ -112,29 +119,29 @@ pub fn clock_goes_back<
         Done::Took(Turn::Nothing),
     );
     assert_eq!(rt;
-        (group.selector_timing(rt, 0), last),
-        (Some(Some(timing)), Ok(Done::Took(Turn::Nothing)))
+        (timing_of(rt, alloc, group), last),
+        (Some(timing), Ok(Done::Took(Turn::Nothing)))
     );
 }
 
-/// Four threads select and read while workers build, all at the last moment.
+/// Four threads select and read while workers build, all at the last moment: `starts` gives workers such a clock.
 pub fn at_the_last_moment<
-    W: Abort + Log + Threads + Wait + Clock + Copy + Send + Sync + Drop + 'static,
->(rt: &W, alloc: Global, crowd: &Crowd<W>) {
-    let mut clock = At { moment: LAST };
-    let missing = [
-        crowd.first.start_workers(rt, alloc, clock),
-        crowd.second.start_workers(rt, alloc, clock),
-    ];
-    let (first, second) = (crowd.first.shared(), crowd.second.shared());
-    let holds = crowd_in(rt, alloc, first, second, 200, 20, &mut clock);
+    H,
+    G: GroupByPasses + Drop + Send + Sync + 'static,
+    W: Abort + Threads + Wait + Clock + Copy + Send + 'static,
+    F: Fn(usize) -> usize,
+>(rt: &W, alloc: Global, pair: &Pair<'_, H, G, W>, starts: &F)
+    requires { F.IsAlwaysCallable starts.now }
+{
+    let missing = [starts(0), starts(1)];
+    let holds = crowd_in(rt, alloc, pair.group, pair.other, 200, 20, &mut At::last());
     let timing = Timing {
         generation: 20,
         queue: 0,
         build: 0,
     };
     assert_eq!(rt;
-        (missing, holds, first.selector_timing(rt, 0)),
-        ([0; 2], true, Some(Some(timing)))
+        (missing, holds, timing_of(rt, alloc, &**pair.group)),
+        ([0; 2], true, Some(timing))
     );
 }

@@ -1,51 +1,41 @@
 //! A pass over a group whose workers are started: what is read of its first update before that and after it, by the group's handle.
 ghost use Rattle.std.specs.Prelude.{◌≡◌};
-ghost use Rattle.std.specs.Arc.{arc_value};
 
 use super::TURNS;
-use lb_crowd::crowd::Handle;
-use log::Log;
+use lb_crowd::calls::HandleByPasses;
+use lb_crowd::handle_asks;
 use pingora_load_balancing::background::RuntimeClock;
-use pingora_load_balancing::discovery::ServiceDiscovery;
-use pingora_load_balancing::health_check::{HealthCheck, KeyRule};
-use pingora_load_balancing::selection::BackendSelection;
-use pingora_load_balancing::{Backend, GroupPass, LoadBalancerGroup};
+use pingora_load_balancing::{Backend, GroupPass};
 use std::alloc::Global;
 use std::process::Abort;
 use std::sync::Wait;
 use std::thread;
-use std::thread::Threads;
 use std::time::{Clock, Duration};
 
 // What is read of the first update while no worker runs.
-fn told_before<
-    S: BackendSelection,
-    D: ServiceDiscovery + Drop,
-    R: KeyRule + Drop,
-    C: HealthCheck + Drop,
-    W: Wait + Clock + Copy,
->(rt: &W, alloc: Global, group: &LoadBalancerGroup<S, D, R, C>) -> [bool; 5] {
+fn told_before<H: HandleByPasses, W: Wait + Clock + Copy>(
+    rt: &W,
+    alloc: Global,
+    group: &H,
+) -> [bool; 4] {
     let mut pass = group.pass();
     let generation = group.update_as(rt, alloc, &mut RuntimeClock::new(*rt), &mut pass);
     [
         generation == Ok(1),
-        group.backend_generation_as(&mut pass) == 1,
-        group.selector_generation_as(0, &mut pass) == Some(0),
+        group.reads(0, &mut pass) == (1, Some(0)),
         !group.selectors_ready_for_as(1, &mut pass),
-        group.selector_generation_as(7, &mut pass).is_none(),
+        group.reads(7, &mut pass) == (1, None),
     ]
 }
 
 // Whether each slot serves generation 1 to a pass, within a thousand turns of ten milliseconds.
-fn comes_to_serve<
-    S: BackendSelection,
-    D: ServiceDiscovery + Drop,
-    R: KeyRule + Drop,
-    C: HealthCheck + Drop,
-    W: Wait + Clock,
->(rt: &W, group: &LoadBalancerGroup<S, D, R, C>, pass: &mut GroupPass) -> bool
-    requires { pass.old.board ≡ (arc_value group.now.shared).board }
-    ensures { pass.new.board ≡ (arc_value group.now.shared).board }
+fn comes_to_serve<H: HandleByPasses, W: Wait + Clock>(
+    rt: &W,
+    group: &H,
+    pass: &mut GroupPass,
+) -> bool
+    requires { pass.old.board ≡ H.board group.now }
+    ensures { pass.new.board ≡ H.board group.now }
 {
     for _ in 0..TURNS {
         if group.selectors_ready_for_as(1, pass) {
@@ -56,42 +46,20 @@ fn comes_to_serve<
     false
 }
 
-// The generation of a reader that enters slot 0 and leaves again, and what it selects.
-fn entered<
-    S: BackendSelection,
-    D: ServiceDiscovery + Drop,
-    R: KeyRule + Drop,
-    C: HealthCheck + Drop,
-    W: Abort + Wait,
->(
+// What passes read once the workers run: by one that waits for it, and by one that meets that. What a reader selects then.
+fn told_after<H: HandleByPasses, W: Abort + Wait + Clock>(
     rt: &W,
     alloc: Global,
-    group: &LoadBalancerGroup<S, D, R, C>,
-    pass: &mut GroupPass,
-) -> (u64, Option<Backend>)
-    requires { pass.old.board ≡ (arc_value group.now.shared).board }
-{
-    let reader = group.enter_as(rt, 0, pass).expect(rt, "refused");
-    let generation = reader.generation();
-    let answer = group.select_in(rt, alloc, &reader, b"k", 1, &|_backend: &Backend| true);
-    group.leave(rt, reader);
-    (generation, answer.expect(rt, "refused"))
-}
-
-// What passes read once the workers run: by one that waits for it, and by one that meets that. What a reader selects then.
-fn told_after<
-    S: BackendSelection,
-    D: ServiceDiscovery + Drop,
-    R: KeyRule + Drop,
-    C: HealthCheck + Drop,
-    W: Abort + Wait + Clock,
->(rt: &W, alloc: Global, group: &LoadBalancerGroup<S, D, R, C>, expected: &Backend) -> [bool; 5] {
+    group: &H,
+    expected: &Backend,
+) -> [bool; 5] {
     let (mut pass, mut other) = (group.pass(), group.pass());
     let serves = comes_to_serve(rt, group, &mut pass);
-    let served = group.selector_generation_as(0, &mut pass);
+    let (_, served) = group.reads(0, &mut pass);
     group.meet(rt, &mut pass, &mut other);
     let is_met = group.selectors_ready_for_as(1, &mut other);
-    let (generation, chosen) = entered(rt, alloc, group, &mut other);
+    let visited = group.visit(rt, alloc, &mut other);
+    let (generation, chosen) = visited.expect(rt, "refused");
     [
         serves,
         served == Some(1),
@@ -102,56 +70,51 @@ fn told_after<
 }
 
 // Whether a slot of a handle selects that backend, by itself and by a reader.
-fn selects<
-    S: BackendSelection,
-    D: ServiceDiscovery + Drop,
-    R: KeyRule + Drop,
-    C: HealthCheck + Drop,
-    W: Abort + Wait,
->(
+fn selects<H: HandleByPasses, W: Abort + Wait>(
     rt: &W,
     alloc: Global,
-    group: &LoadBalancerGroup<S, D, R, C>,
+    group: &H,
     slot: usize,
     expected: Option<&Backend>,
 ) -> bool {
-    let found = group.select(rt, alloc, slot, b"k", 4).expect(rt, "refused");
-    let read = group
-        .reader()
-        .select(rt, alloc, slot, b"k", 4)
-        .expect(rt, "refused");
+    let found = handle_asks::select(rt, alloc, group, slot, b"k").expect(rt, "refused");
+    let read = handle_asks::select_by_reader(rt, alloc, group, slot, b"k").expect(rt, "refused");
     found.as_ref() == expected && read == found
 }
 
 // What a handle answers once its workers served an update: what it selects from each slot and from one that isn't there, and its timings.
-fn served<
-    S: BackendSelection,
-    D: ServiceDiscovery + Drop,
-    R: KeyRule + Drop,
-    C: HealthCheck + Drop,
-    W: Abort + Wait,
->(rt: &W, alloc: Global, group: &LoadBalancerGroup<S, D, R, C>, expected: &Backend) -> [bool; 7] {
+fn served<H: HandleByPasses, W: Abort + Wait>(
+    rt: &W,
+    alloc: Global,
+    group: &H,
+    expected: &Backend,
+) -> [bool; 7] {
+    let readings = handle_asks::readings(rt, alloc, group, 0).expect(rt, "another answer");
+    let newest = handle_asks::newest(rt, alloc, group).expect(rt, "another answer");
     [
-        group.selectors_ready_for(rt, group.backend_generation(rt)),
+        handle_asks::are_ready_for(rt, alloc, group, newest),
         selects(rt, alloc, group, 0, Some(expected)),
         selects(rt, alloc, group, 1, Some(expected)),
         selects(rt, alloc, group, 2, None),
-        group.selector_last_update_timing(rt, 0).is_some(),
-        matches!(group.last_update_timing(rt), Some(timing) if timing.build_duration == 0),
-        !group.is_cancelled(rt),
+        readings.is_timed,
+        matches!(readings.timing, Some(timing) if timing.build_duration == 0),
+        !readings.is_cancelled,
     ]
 }
 
 /// A pass sees its update at once, and what the slots serve once the workers have published, which serve what was found.
-pub fn with_workers<W: Abort + Log + Threads + Wait + Clock + Copy + Send + Sync + Drop + 'static>(
+pub fn with_workers<H: HandleByPasses, W: Abort + Wait + Clock + Copy, F: Fn(usize) -> usize>(
     rt: &W,
     alloc: Global,
-    group: &Handle<W>,
-) {
+    group: &H,
+    starts: &F,
+)
+    requires { F.IsAlwaysCallable starts.now }
+{
     let expected = Backend::new(alloc, "1.0.0.1:80").expect(rt, "refused");
     let before = told_before(rt, alloc, group);
-    let missing = group.start_workers(rt, alloc, RuntimeClock::new(*rt));
-    assert_eq!(rt; (before, missing), ([true; 5], 0));
+    let missing = starts(0);
+    assert_eq!(rt; (before, missing), ([true; 4], 0));
     let after = told_after(rt, alloc, group, &expected);
     let served = served(rt, alloc, group, &expected);
     assert_eq!(rt; (after, served), ([true; 5], [true; 7]));

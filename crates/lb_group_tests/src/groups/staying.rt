@@ -1,15 +1,15 @@
 //! Readers that stay in what their slot retired, by calls: they hold up each rebuild on their gate, also in a cancelled group, and what
 //! they are in is destroyed once they have left. Selections in a lane, and `ready`, go on while the registry's lock is held.
 use crate::groups::turns::{turn, update};
-use lb_crowd::crowd::{NoCheck, Registry, one_backend, select_one};
+use lb_crowd::calls::{AskedGroup, AskedHandle, GroupWithReaders};
+use lb_crowd::crowd::{Registry, one_backend, select_one};
 use lb_crowd::turns::Still;
+use lb_crowd::{group_asks, handle_asks};
 use lb_threads_core::registry::{put_registry, take_registry};
-use pingora_load_balancing::discovery::ServiceDiscovery;
-use pingora_load_balancing::health_check::{HealthCheck, KeyRule, NoRule, Rule};
+use pingora_load_balancing::health_check::{HealthCheck, KeyRule};
 use pingora_load_balancing::plain::Counts;
-use pingora_load_balancing::port::{LockedPort, Turn, WorkPort, update_through};
-use pingora_load_balancing::selection::BackendSelection;
-use pingora_load_balancing::{Backend, HealthRegistry, LoadBalancerGroup, Refusal, SharedGroup};
+use pingora_load_balancing::port::Turn;
+use pingora_load_balancing::{Backend, HealthRegistry, Refusal};
 use std::alloc::Global;
 use std::collections::BTreeSet;
 use std::process::Abort;
@@ -19,19 +19,6 @@ use std::sync::atomic::{AtomicBool, AtomicU64};
 use std::thread;
 use std::thread::{Threads, join};
 use std::time::{Clock, Duration};
-
-// Destroys what a slot retired, and reports it.
-fn destroyed<S: BackendSelection, R: KeyRule + Drop, C: HealthCheck + Drop, W: Wait>(
-    rt: &W,
-    group: &SharedGroup<S, R, C>,
-    slot: usize,
-) -> Result<(), Refusal> {
-    let mut port = LockedPort::new(group, rt);
-    let retired = port.take_retired(slot)?;
-    let permit = retired.destroy();
-    port.destroyed(slot, permit);
-    Ok(())
-}
 
 // The counts of a slot that published so often, and that so many memberships came for while one waited.
 fn counts(published: u64, coalesced: u64) -> Option<Counts> {
@@ -43,31 +30,37 @@ fn counts(published: u64, coalesced: u64) -> Option<Counts> {
     })
 }
 
-/// A reader stays in what slot 0 retired while newer memberships come: neither slot is rebuilt until it has left, and the other slot then
-/// serves the newest.
-pub fn reader_stays<S: BackendSelection, R: KeyRule + Drop, C: HealthCheck + Drop, W: Wait + Abort>(
+// The counts of a slot.
+fn counts_of<G: AskedGroup, W: Wait + Abort>(
     rt: &W,
     alloc: Global,
-    group: &SharedGroup<S, R, C>,
-) {
-    let mut pass = group.pass();
+    group: &G,
+    slot: usize,
+) -> Option<Counts> {
+    let told = group_asks::readings(rt, alloc, group, slot);
+    told.expect(rt, "another answer").counts
+}
+
+/// A reader stays in what slot 0 retired while newer memberships come: neither slot is rebuilt until it has left, and the other slot then
+/// serves the newest.
+pub fn reader_stays<G: GroupWithReaders, W: Wait + Abort>(rt: &W, alloc: Global, group: &G) {
     let newest = update(rt, alloc, group, 1);
-    let reader = group.enter_as(rt, 0, &mut pass).expect(rt, "refused");
+    let reader = group.enter(rt, 0).expect(rt, "refused");
     let turns = [
         turn(rt, alloc, group, 0),
         turn(rt, alloc, group, 0),
         turn(rt, alloc, group, 1),
     ];
-    let read = destroyed(rt, group, 0);
+    let read = group_asks::destroy(rt, alloc, group, 0);
     let newest = [
         newest,
         update(rt, alloc, group, 2),
         update(rt, alloc, group, 3),
     ];
     let later = [turn(rt, alloc, group, 0), turn(rt, alloc, group, 1)];
-    let waits = group.selector_counts(rt, 1);
+    let waits = counts_of(rt, alloc, group, 1);
     group.leave(rt, reader);
-    let gone = destroyed(rt, group, 0);
+    let gone = group_asks::destroy(rt, alloc, group, 0);
     let last = [turn(rt, alloc, group, 1), turn(rt, alloc, group, 0)];
     assert_eq!(rt;
         (newest, turns, read, later),
@@ -79,7 +72,7 @@ pub fn reader_stays<S: BackendSelection, R: KeyRule + Drop, C: HealthCheck + Dro
         )
     );
     assert_eq!(rt;
-        (waits, gone, last, destroyed(rt, group, 1)),
+        (waits, gone, last, group_asks::destroy(rt, alloc, group, 1)),
         (
             counts(0, 2),
             Ok(()),
@@ -92,24 +85,23 @@ pub fn reader_stays<S: BackendSelection, R: KeyRule + Drop, C: HealthCheck + Dro
 /// A group is cancelled while a reader stays in what it retired: the selector that it serves goes on, by the health of cells that nothing
 /// checks any more and without the registry's lock, which this very thread holds, and the permit comes back once the reader has left.
 pub fn cancelled_while_read<
-    S: BackendSelection,
+    G: GroupWithReaders,
     R: KeyRule + Drop,
     C: HealthCheck + Drop,
     W: Wait + Abort,
->(rt: &W, alloc: Global, group: &SharedGroup<S, R, C>, registry: &HealthRegistry<R, C>) {
-    let mut pass = group.pass();
+>(rt: &W, alloc: Global, group: &G, registry: &HealthRegistry<R, C>) {
     update(rt, alloc, group, 1);
-    let reader = group.enter_as(rt, 0, &mut pass).expect(rt, "refused");
+    let reader = group.enter(rt, 0).expect(rt, "refused");
     let published = turn(rt, alloc, group, 0);
     let targets = registry.targets(rt, alloc).expect(rt, "refused");
     let cell = targets.get(0).map(|target| target.cell).unwrap_or(0);
-    group.cancel(rt);
-    let read = destroyed(rt, group, 0);
+    group_asks::cancel(rt, alloc, group);
+    let read = group_asks::destroy(rt, alloc, group, 0);
     let held = take_registry(registry, rt);
     let before = select_one(rt, alloc, group, 0).expect(rt, "refused");
     put_registry(registry, held);
     group.leave(rt, reader);
-    let gone = destroyed(rt, group, 0);
+    let gone = group_asks::destroy(rt, alloc, group, 0);
     let unchecked = registry.target_count(rt, alloc);
     let flipped = registry.observe(rt, cell, false, 1);
     let after = select_one(rt, alloc, group, 0).expect(rt, "refused");
@@ -121,86 +113,81 @@ pub fn cancelled_while_read<
         unchecked == Ok(0),
         flipped == Ok(true),
         after.is_none(),
-        group.selector_counts(rt, 0) == counts(1, 0),
+        counts_of(rt, alloc, group, 0) == counts(1, 0),
         turn(rt, alloc, group, 0) == Turn::Cancelled,
     ];
     assert_eq!(rt; told, [true; 9]);
 }
 
 // Has slot 0 serve another generation; whether what it retires is still read.
-fn is_retired_read<S: BackendSelection, R: KeyRule + Drop, C: HealthCheck + Drop, W: Wait + Abort>(
-    rt: &W,
-    alloc: Global,
-    group: &SharedGroup<S, R, C>,
-) -> bool {
+fn is_retired_read<G: AskedGroup, W: Wait + Abort>(rt: &W, alloc: Global, group: &G) -> bool {
     update(rt, alloc, group, 2);
     let published = turn(rt, alloc, group, 0);
-    let read = destroyed(rt, group, 0);
+    let read = group_asks::destroy(rt, alloc, group, 0);
     published == Turn::Published(2) && read == Err(Refusal::StillRead(1))
 }
 
 /// A selection is in a lane while another generation is published: what it is in is retired and read until it has ended.
-pub fn retired_while_selected<
-    S: BackendSelection,
-    R: KeyRule + Drop,
-    C: HealthCheck + Drop,
-    W: Wait + Abort,
->(rt: &W, alloc: Global, group: &SharedGroup<S, R, C>) {
+pub fn retired_while_selected<G: AskedGroup, W: Wait + Abort>(rt: &W, alloc: Global, group: &G) {
     update(rt, alloc, group, 1);
     let published = turn(rt, alloc, group, 0);
-    let first = destroyed(rt, group, 0);
+    let first = group_asks::destroy(rt, alloc, group, 0);
     let was_read = AtomicBool::new(false);
     let accept = |_backend: &Backend, _ready: bool| -> bool {
         was_read.store(is_retired_read(rt, alloc, group), SeqCst);
         true
     };
-    let found = group.select_with(rt, alloc, 0, b"k", 4, &accept);
+    let found = group.select_with(rt, alloc, 0, &accept);
     let found = found.expect(rt, "refused").map(|backend| backend.weight);
     let told = [
         published == Turn::Published(1),
         first == Ok(()),
         was_read.load(SeqCst),
         found == Some(1),
-        destroyed(rt, group, 0) == Ok(()),
+        group_asks::destroy(rt, alloc, group, 0) == Ok(()),
     ];
     assert_eq!(rt; told, [true; 5]);
 }
 
 // Whether two backends are ready in the newest membership, asked by a thread that holds the registry.
-fn ready_as_the_holder<S: BackendSelection, R: KeyRule + Drop, C: HealthCheck + Drop, W: Wait>(
+fn ready_as_the_holder<G: AskedGroup, R: KeyRule + Drop, C: HealthCheck + Drop, W: Wait>(
     rt: &W,
-    group: &SharedGroup<S, R, C>,
+    alloc: Global,
+    group: &G,
     registry: &HealthRegistry<R, C>,
     first: &Backend,
     second: &Backend,
 ) -> [bool; 2] {
     let held = take_registry(registry, rt);
-    let ready = [group.ready(rt, first), group.ready(rt, second)];
+    let ready = [
+        group_asks::ready(rt, alloc, group, first),
+        group_asks::ready(rt, alloc, group, second),
+    ];
     put_registry(registry, held);
     ready
 }
 
 /// Readiness in the newest membership takes no lock while no slot serves that yet: of its member, also once its flag was set or its cell
 /// flipped, and of a backend that it doesn't list. So it goes on while this very thread holds the registry.
-pub fn ready_while_behind<
-    S: BackendSelection,
-    R: KeyRule + Drop,
-    C: HealthCheck + Drop,
-    W: Wait + Abort,
->(rt: &W, alloc: Global, group: &SharedGroup<S, R, C>, registry: &HealthRegistry<R, C>) {
+pub fn ready_while_behind<G: AskedGroup, R: KeyRule + Drop, C: HealthCheck + Drop, W: Wait + Abort>(
+    rt: &W,
+    alloc: Global,
+    group: &G,
+    registry: &HealthRegistry<R, C>,
+) {
     update(rt, alloc, group, 1);
-    let members = group.get_backend(rt).expect(rt, "refused");
+    let members = group_asks::members(rt, alloc, group).expect(rt, "refused");
     let member = members.first().expect(rt, "none is listed");
     let other = Backend::new(alloc, "9.9.9.9:80").expect(rt, "refused");
-    let listed = ready_as_the_holder(rt, group, registry, member, &other);
-    group.set_enable(rt, member, false);
-    let disabled = ready_as_the_holder(rt, group, registry, member, &other);
-    group.set_enable(rt, member, true);
-    let enabled = ready_as_the_holder(rt, group, registry, member, &other);
+    let listed = ready_as_the_holder(rt, alloc, group, registry, member, &other);
+    group_asks::set_enable(rt, alloc, group, member, false);
+    let disabled = ready_as_the_holder(rt, alloc, group, registry, member, &other);
+    group_asks::set_enable(rt, alloc, group, member, true);
+    let enabled = ready_as_the_holder(rt, alloc, group, registry, member, &other);
     let targets = registry.targets(rt, alloc).expect(rt, "refused");
     let cell = targets.get(0).map(|target| target.cell).unwrap_or(0);
     let down = registry.observe(rt, cell, false, 1);
-    let flipped = ready_as_the_holder(rt, group, registry, member, &other);
+    let flipped = ready_as_the_holder(rt, alloc, group, registry, member, &other);
     let up = registry.observe(rt, cell, true, 1);
     assert_eq!(rt; [down, up], [Ok(true), Ok(true)]);
     assert_eq!(rt;
@@ -219,30 +206,18 @@ const HELD: u64 = 1;
 const LET_GO: u64 = 2;
 
 // Whether slot 0 of a group selects this backend, which is ready.
-fn is_given<
-    S: BackendSelection,
-    D: ServiceDiscovery + Drop,
-    R: KeyRule + Drop,
-    C: HealthCheck + Drop,
-    W: Wait,
->(rt: &W, alloc: Global, group: &LoadBalancerGroup<S, D, R, C>, wanted: &Backend) -> bool {
-    match group.select(rt, alloc, 0, b"k", 4) {
-        Ok(Some(found)) => found == *wanted && group.backends().ready(rt, wanted),
+fn is_given<H: AskedHandle, W: Wait>(rt: &W, alloc: Global, group: &H, wanted: &Backend) -> bool {
+    match handle_asks::select(rt, alloc, group, 0, b"k") {
+        Ok(Some(found)) => found == *wanted && handle_asks::ready(rt, alloc, group, wanted),
         _ => false,
     }
 }
 
 // Selects until the registry is let go; how often while it was held, or 0 where one of the answers was another one.
-fn goes_on<
-    S: BackendSelection,
-    D: ServiceDiscovery + Drop,
-    R: KeyRule + Drop,
-    C: HealthCheck + Drop,
-    W: Wait,
->(
+fn goes_on<H: AskedHandle, W: Wait>(
     rt: &W,
     alloc: Global,
-    group: &LoadBalancerGroup<S, D, R, C>,
+    group: &H,
     wanted: &Backend,
     word: &AtomicU64,
 ) -> u64 {
@@ -277,14 +252,10 @@ fn holds<R: KeyRule + Drop, C: HealthCheck + Drop, W: Wait + Clock>(
 
 // How often this thread selects by a group's handle while another one holds the registry for a second, or 0 where one of the answers was
 // another one.
-fn beside_a_holder<
-    S: BackendSelection,
-    D: ServiceDiscovery + Drop,
-    W: Threads + Wait + Clock + Sync,
->(
+fn beside_a_holder<H: AskedHandle + Sync, W: Threads + Wait + Clock + Sync>(
     rt: &W,
     alloc: Global,
-    group: &LoadBalancerGroup<S, D, Rule<NoRule>, NoCheck>,
+    group: &H,
     registry: &Registry,
     wanted: &Backend,
 ) -> u64 {
@@ -298,16 +269,10 @@ fn beside_a_holder<
 }
 
 // Whether this very thread selects by a group's handle while it holds the registry.
-fn selects_as_the_holder<
-    S: BackendSelection,
-    D: ServiceDiscovery + Drop,
-    R: KeyRule + Drop,
-    C: HealthCheck + Drop,
-    W: Wait,
->(
+fn selects_as_the_holder<H: AskedHandle, R: KeyRule + Drop, C: HealthCheck + Drop, W: Wait>(
     rt: &W,
     alloc: Global,
-    group: &LoadBalancerGroup<S, D, R, C>,
+    group: &H,
     registry: &HealthRegistry<R, C>,
     wanted: &Backend,
 ) -> bool {
@@ -318,14 +283,14 @@ fn selects_as_the_holder<
 }
 
 // Flips the cell of a backend that another view has for so long, and sets its flag in a group that doesn't list it. Whether it flipped.
-fn changes_another<S: BackendSelection, R: KeyRule + Drop, C: HealthCheck + Drop, W: Wait + Abort>(
+fn changes_another<G: AskedGroup, R: KeyRule + Drop, C: HealthCheck + Drop, W: Wait + Abort>(
     rt: &W,
     alloc: Global,
-    group: &SharedGroup<S, R, C>,
+    group: &G,
     registry: &HealthRegistry<R, C>,
 ) -> bool {
     let other = Backend::new(alloc, "9.9.9.9:80").expect(rt, "refused");
-    group.set_enable(rt, &other, false);
+    group_asks::set_enable(rt, alloc, group, &other, false);
     let mut members = BTreeSet::new(alloc);
     members.insert(other).expect(rt, "refused");
     let view = registry.register_view(rt, alloc).expect(rt, "refused");
@@ -338,52 +303,41 @@ fn changes_another<S: BackendSelection, R: KeyRule + Drop, C: HealthCheck + Drop
 }
 
 // Updates a group to one backend by a port, so that no call of the group's own follows the schedule; the generation.
-fn schedule<S: BackendSelection, R: KeyRule + Drop, C: HealthCheck + Drop, W: Wait + Abort>(
-    rt: &W,
-    alloc: Global,
-    group: &SharedGroup<S, R, C>,
-) -> u64 {
+fn schedule<G: AskedGroup, W: Wait + Abort>(rt: &W, alloc: Global, group: &G) -> u64 {
     let discovery = one_backend(alloc, 1).expect(rt, "refused");
-    let mut port = LockedPort::new(group, rt);
-    update_through(alloc, &mut port, &discovery, &mut Still {}).expect(rt, "refused")
+    group_asks::schedule(rt, alloc, group, &discovery, &mut Still {}).expect(rt, "refused")
 }
 
 /// A selection takes no lock, nor does a reading of what is ready, once a schedule has ended, also after flips of the backend's cell and a
 /// flag: they go on while this very thread holds the registry, and all the second that another thread does. A flip is seen by the next.
 pub fn selects_while_the_registry_is_held<
-    S: BackendSelection,
-    D: ServiceDiscovery + Drop,
+    H: AskedHandle + Sync,
+    G: AskedGroup,
     W: Abort + Threads + Wait + Clock + Sync,
->(
-    rt: &W,
-    alloc: Global,
-    handle: &LoadBalancerGroup<S, D, Rule<NoRule>, NoCheck>,
-    registry: &Registry,
-) {
-    let group = &**handle.shared();
+>(rt: &W, alloc: Global, handle: &H, group: &G, registry: &Registry) {
     let newest = schedule(rt, alloc, group);
     let published = turn(rt, alloc, group, 0);
     let first = select_one(rt, alloc, group, 0).expect(rt, "refused");
     let first = first.expect(rt, "none is ready");
-    let asked = group.ready(rt, &first);
+    let asked = group_asks::ready(rt, alloc, group, &first);
     let other = changes_another(rt, alloc, group, registry);
     let targets = registry.targets(rt, alloc).expect(rt, "refused");
     let cell = targets.get(0).map(|target| target.cell).unwrap_or(0);
     let down = registry.observe(rt, cell, false, 1);
     let up = registry.observe(rt, cell, true, 1);
-    group.set_enable(rt, &first, true);
+    group_asks::set_enable(rt, alloc, group, &first, true);
     let again = selects_as_the_holder(rt, alloc, handle, registry, &first);
     let count = beside_a_holder(rt, alloc, handle, registry, &first);
     let flipped = registry.observe(rt, cell, false, 1);
     let third = select_one(rt, alloc, group, 0).expect(rt, "refused");
     let told = [
         (newest, published) == (1, Turn::Published(1)),
-        [asked, again, group.ready(rt, &first)] == [true, true, false],
+        [asked, again, group_asks::ready(rt, alloc, group, &first)] == [true, true, false],
         count >= SELECTIONS,
         other,
         [down == Ok(true), up == Ok(true), flipped == Ok(true)] == [true; 3],
         third.is_none(),
-        destroyed(rt, group, 0) == Ok(()),
+        group_asks::destroy(rt, alloc, group, 0) == Ok(()),
     ];
     assert_eq!(rt; told, [true; 7]);
 }

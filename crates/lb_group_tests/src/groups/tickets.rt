@@ -1,12 +1,12 @@
 //! Each built selector has a counter of tickets of its own, which begins at 0; a reader of a retired selector goes on in that one's.
 use crate::groups::turns::turn;
+use lb_crowd::calls::{AskedGroup, GroupWithReaders};
 use lb_crowd::crowd::select_one;
+use lb_crowd::group_asks;
 use lb_crowd::turns::Still;
 use pingora_load_balancing::discovery::{DiscoverySource, Static};
-use pingora_load_balancing::health_check::{HealthCheck, KeyRule};
 use pingora_load_balancing::port::Turn;
-use pingora_load_balancing::selection::BackendSelection;
-use pingora_load_balancing::{Backend, Refusal, SharedGroup};
+use pingora_load_balancing::{Backend, Refusal};
 use std::alloc::Global;
 use std::collections::BTreeSet;
 use std::process::Abort;
@@ -25,14 +25,14 @@ fn first_ones(alloc: Global, count: usize) -> Result<DiscoverySource<Static>, Re
 }
 
 // Updates a group to so many backends, and builds slot 0; whether that is published.
-fn published<S: BackendSelection, R: KeyRule + Drop, C: HealthCheck + Drop, W: Wait + Abort>(
+fn published<G: AskedGroup, W: Wait + Abort>(
     rt: &W,
     alloc: Global,
-    group: &SharedGroup<S, R, C>,
+    group: &G,
     backends: usize,
 ) -> bool {
     let discovery = first_ones(alloc, backends).expect(rt, "refused");
-    let updated = group.update(rt, alloc, &discovery, &mut Still {});
+    let updated = group_asks::update(rt, alloc, group, &discovery, &mut Still {});
     let generation = updated.expect(rt, "refused");
     turn(rt, alloc, group, 0) == Turn::Published(generation)
 }
@@ -50,28 +50,20 @@ fn is_at<W: Abort>(
 
 /// A slot that serves by turns begins with the first backend of each selector that is built for it, while a reader of the one before goes
 /// on where that one was.
-pub fn tickets_of_each<
-    S: BackendSelection,
-    R: KeyRule + Drop,
-    C: HealthCheck + Drop,
-    W: Wait + Abort,
->(rt: &W, alloc: Global, group: &SharedGroup<S, R, C>) {
+pub fn tickets_of_each<G: GroupWithReaders, W: Wait + Abort>(rt: &W, alloc: Global, group: &G) {
     let first = published(rt, alloc, group, 3);
     let before = [
         is_at(rt, alloc, select_one(rt, alloc, group, 0), "1.0.0.1:80"),
         is_at(rt, alloc, select_one(rt, alloc, group, 0), "1.0.0.2:80"),
     ];
-    let reader = group
-        .enter_as(rt, 0, &mut group.pass())
-        .expect(rt, "refused");
+    let reader = group.enter(rt, 0).expect(rt, "refused");
     let second = published(rt, alloc, group, 2);
-    let any = |_backend: &Backend| true;
     let after = [
         is_at(rt, alloc, select_one(rt, alloc, group, 0), "1.0.0.1:80"),
         is_at(
             rt,
             alloc,
-            group.select_in(rt, alloc, &reader, b"k", 1, &any),
+            group.select_in(rt, alloc, &reader, b"k", 1),
             "1.0.0.3:80",
         ),
         is_at(rt, alloc, select_one(rt, alloc, group, 0), "1.0.0.2:80"),

@@ -1,49 +1,41 @@
 //! Turns that the caller's thread takes for slots of groups on one gate, and their workers' last ones.
+use lb_crowd::calls::AskedGroup;
 use lb_crowd::crowd::{one_backend, select_one};
-use lb_crowd::turns;
+use lb_crowd::group_asks;
 use lb_crowd::turns::Still;
 use log::sink::Locked;
 use log::{Level, Log, Logged};
-use pingora_load_balancing::background::work;
 use pingora_load_balancing::discovery::{DiscoverySource, Static};
-use pingora_load_balancing::health_check::{HealthCheck, KeyRule};
 use pingora_load_balancing::port::Turn;
-use pingora_load_balancing::selection::BackendSelection;
-use pingora_load_balancing::{Backend, MomentSource, Refusal, SharedGroup};
+use pingora_load_balancing::{Backend, MomentSource, Refusal};
 use std::alloc::Global;
 use std::collections::BTreeSet;
 use std::process::Abort;
 use std::sync::Wait;
 
 // Updates a group to a backend of this weight; the generation.
-pub(super) fn update<
-    S: BackendSelection,
-    R: KeyRule + Drop,
-    C: HealthCheck + Drop,
-    W: Wait + Abort,
->(rt: &W, alloc: Global, group: &SharedGroup<S, R, C>, weight: usize) -> u64 {
+pub(super) fn update<G: AskedGroup, W: Wait + Abort>(
+    rt: &W,
+    alloc: Global,
+    group: &G,
+    weight: usize,
+) -> u64 {
     let discovery = one_backend(alloc, weight).expect(rt, "refused");
-    group
-        .update(rt, alloc, &discovery, &mut Still {})
-        .expect(rt, "refused")
+    group_asks::update(rt, alloc, group, &discovery, &mut Still {}).expect(rt, "refused")
 }
 
 // Takes a turn for a slot.
-pub(super) fn turn<S: BackendSelection, R: KeyRule + Drop, C: HealthCheck + Drop, W: Wait + Abort>(
+pub(super) fn turn<G: AskedGroup, W: Wait + Abort>(
     rt: &W,
     alloc: Global,
-    group: &SharedGroup<S, R, C>,
+    group: &G,
     slot: usize,
 ) -> Turn {
-    turns::turn(rt, alloc, group, slot).expect(rt, "refused")
+    group_asks::turn(rt, alloc, group, slot, &mut Still {}).expect(rt, "refused")
 }
 
 // Whether slot 0 selects the one backend.
-fn selects<S: BackendSelection, R: KeyRule + Drop, C: HealthCheck + Drop, W: Wait + Abort>(
-    rt: &W,
-    alloc: Global,
-    group: &SharedGroup<S, R, C>,
-) -> bool {
+fn selects<G: AskedGroup, W: Wait + Abort>(rt: &W, alloc: Global, group: &G) -> bool {
     let expected = Backend::new(alloc, "1.0.0.1:80").expect(rt, "refused");
     let selected = select_one(rt, alloc, group, 0).expect(rt, "refused");
     selected.as_ref() == Some(&expected)
@@ -51,12 +43,12 @@ fn selects<S: BackendSelection, R: KeyRule + Drop, C: HealthCheck + Drop, W: Wai
 
 /// While what one group retired is not destroyed, the other one builds nothing; then the permit is back. A turn with nothing to do says
 /// so, what was built is selected, and a cancelled group builds no more.
-pub fn turns_on_one_gate<
-    S: BackendSelection,
-    R: KeyRule + Drop,
-    C: HealthCheck + Drop,
-    W: Wait + Abort,
->(rt: &W, alloc: Global, first: &SharedGroup<S, R, C>, second: &SharedGroup<S, R, C>) {
+pub fn turns_on_one_gate<G: AskedGroup, W: Wait + Abort>(
+    rt: &W,
+    alloc: Global,
+    first: &G,
+    second: &G,
+) {
     let generations = [update(rt, alloc, first, 1), update(rt, alloc, second, 1)];
     let turns = [
         turn(rt, alloc, first, 0),
@@ -66,7 +58,7 @@ pub fn turns_on_one_gate<
         turn(rt, alloc, second, 0),
     ];
     let is_selected = selects(rt, alloc, first);
-    first.cancel(rt);
+    group_asks::cancel(rt, alloc, first);
     let wanted = [
         Turn::Published(1),
         Turn::Busy,
@@ -81,24 +73,29 @@ pub fn turns_on_one_gate<
     );
 }
 
+// Whether a group is cancelled.
+fn is_cancelled<G: AskedGroup, W: Wait + Abort>(rt: &W, alloc: Global, group: &G) -> bool {
+    let told = group_asks::readings(rt, alloc, group, 0);
+    told.expect(rt, "another answer").is_cancelled
+}
+
 /// A worker of a group that is dropped cancels it, and ends; what it was to build is not built. A slot that isn't there has no worker.
-pub fn worker_of_one_let_go<
-    S: BackendSelection,
-    R: KeyRule + Drop,
-    C: HealthCheck + Drop,
-    W: Log + Wait + Abort,
->(rt: &W, alloc: Global, group: &SharedGroup<S, R, C>) {
+pub fn worker_of_one_let_go<G: AskedGroup, W: Log + Wait + Abort>(
+    rt: &W,
+    alloc: Global,
+    group: &G,
+) {
     let generation = update(rt, alloc, group, 1);
-    group.let_go();
-    let was_cancelled = group.is_cancelled(rt);
+    group_asks::let_go(rt, alloc, group);
+    let was_cancelled = is_cancelled(rt, alloc, group);
     let told = [
         generation == 1,
         !was_cancelled,
-        work(rt, alloc, group, 0, &mut Still {}),
-        group.is_cancelled(rt),
+        group.work(rt, alloc, 0, &mut Still {}),
+        is_cancelled(rt, alloc, group),
         group.worker_count() == 0,
-        group.selector_generation(rt, 0) == Some(0),
-        !work(rt, alloc, group, 7, &mut Still {}),
+        group_asks::served(rt, alloc, group, 0) == Some(0),
+        !group.work(rt, alloc, 7, &mut Still {}),
     ];
     assert_eq!(rt; told, [true; 7]);
 }
@@ -113,13 +110,14 @@ pub(super) fn too_heavy(alloc: Global) -> Result<DiscoverySource<Static>, Refusa
 
 // A clock at whose second reading a group is dropped.
 #[derive(Drop)]
-struct LettingGo<'g, S: BackendSelection, R: KeyRule + Drop, C> {
-    group: &'g SharedGroup<S, R, C>,
+struct LettingGo<'g, G, W> {
+    rt: &'g W,
+    alloc: Global,
+    group: &'g G,
     reading: u64,
 }
 
-impl<'g, S: BackendSelection, R: KeyRule + Drop, C: HealthCheck + Drop> MomentSource
-    for LettingGo<'g, S, R, C> {
+impl<'g, G: AskedGroup, W: Wait> MomentSource for LettingGo<'g, G, W> {
     ghost use Rattle.std.specs.Prelude.{⊤};
 
     ghost reads = { λ s m t. ⊤ };
@@ -127,31 +125,35 @@ impl<'g, S: BackendSelection, R: KeyRule + Drop, C: HealthCheck + Drop> MomentSo
     fn now(&mut self) -> u128 {
         self.reading = self.reading.saturating_add(1);
         if self.reading == 2 {
-            let group = self.group;
-            group.let_go();
+            group_asks::let_go(self.rt, self.alloc, self.group);
         }
         10
     }
 }
 
 // A worker whose first build is refused, and whose group is dropped then; whether it was the slot's worker.
-fn works_once<S: BackendSelection, R: KeyRule + Drop, C: HealthCheck + Drop, W: Log + Wait>(
+fn works_once<G: AskedGroup, W: Log + Wait>(
     rt: &W,
     alloc: Global,
-    group: &SharedGroup<S, R, C>,
+    group: &G,
 ) -> Result<bool, Refusal> {
     let heavy = too_heavy(alloc)?;
-    group.update(rt, alloc, &heavy, &mut Still {})?;
-    Ok(work(rt, alloc, group, 0, &mut LettingGo { group, reading: 0 }))
+    group_asks::update(rt, alloc, group, &heavy, &mut Still {})?;
+    let mut clock = LettingGo {
+        rt,
+        alloc,
+        group,
+        reading: 0,
+    };
+    Ok(group.work(rt, alloc, 0, &mut clock))
 }
 
 /// A build that is refused is logged, with its generation and the cause.
-pub fn refused_once<
-    S: BackendSelection,
-    R: KeyRule + Drop,
-    C: HealthCheck + Drop,
-    W: Wait + Abort + Copy + Drop,
->(rt: &W, alloc: Global, group: &SharedGroup<S, R, C>) {
+pub fn refused_once<G: AskedGroup, W: Wait + Abort + Copy + Drop>(
+    rt: &W,
+    alloc: Global,
+    group: &G,
+) {
     let sink = Locked::new(*rt, Vec::new(alloc));
     let has_worked = works_once(&Logged::new(*rt, Level::Debug, &sink), alloc, group);
     let text = sink.into_inner();

@@ -15,8 +15,6 @@ use Prim.Native.Nat.{ℕ}
 use denote.Param.Send.{IsSync, AllSync, struct_sync, recorded_sync, param_sync, arg_sync, shr_sync, shr_slice_sync, sendable}
 use Rattle.std.proofs.Crossing.{crosses, sync}
 use Rattle.std.specs.contracts.alloc.Global as heap
-use Rattle.lb_balancer_group.specs.contracts.group.LoadBalancerGroup as handle
-use Rattle.lb_balancer_group.proofs.Handles.{handle_sync}
 use Rattle.lb_threads_core.specs.contracts.registry.HealthRegistry as registry
 use Rattle.lb_threads_core.proofs.registry.HealthRegistry.TheSendSync as registry_crossing
 use Rattle.lb_group_tests.specs.contracts.groups.forms.Tally as tally
@@ -41,13 +39,9 @@ crossing τ k n ℓ0 ℓ1 ℓ2 ℓ3 κ0 κ1 κ2 κ3 W G Q T w g q t =
 
 pub map_indices-parts-requires-sync-F : goal.map_indices-parts-requires-sync-F
 map_indices-parts-requires-sync-F g c κs within =
-    let T = param 0 g.row.S in let D = param 1 g.row.D in let R = param 2 g.row.R in let H = param 3 g.row.C in
-    let C = param 5 g.row.S-Config in let W = param 6 g.row.S-Walk in
+    let G = param 0 g.row.H in let R = param 1 g.row.R in let H = param 2 g.row.C in
     let b = c.type_bounds in
-    let group = handle.the_row T D R H C W g.S.BackendSelection g.R.KeyRule in
-    let y = handle_sync T D R H C W g.S.BackendSelection g.R.KeyRule b.send-S b.send-S-Config b.sync-S
-    b.sync-S-Config b.send-D b.sync-D b.send-R b.sync-R b.send-C b.sync-C in
     let q : IsSync (registry.the_row R H g.R.KeyRule) =
     registry_crossing.the_sync R H g.R.KeyRule b.send-R b.send-C b.sync-C in
     let t : IsSync tally.the_row = search (sendable, crosses, tally_crossing.the_sync) depth 20 in
-    crossing _ no _ _ _ _ _ _ _ _ _ (copied 4 g.row.W) group (registry.the_row R H g.R.KeyRule) tally.the_row b.sync-W y q t
+    crossing _ no _ _ _ _ _ _ _ _ _ (copied 3 g.row.W) G (registry.the_row R H g.R.KeyRule) tally.the_row b.sync-W b.sync-H q t
