@@ -37,7 +37,7 @@ const READ: u32 = 4;
 const DESTROYED: u32 = 5;
 
 // The calls that are measured, each by its place.
-const CALLS: [&str; 9] = [
+const CALLS: &[&str] = &[
     "clock",
     "schedule",
     "ask",

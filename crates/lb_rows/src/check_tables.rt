@@ -31,7 +31,7 @@ pub(crate) struct Check {
 }
 
 /// The answers in data/.
-pub(crate) const CHECKS: [Check; 5] = [
+pub(crate) const CHECKS: &[Check] = &[
     Check {
         asked: DEFAULT,
         names: &[
@@ -129,7 +129,7 @@ pub(crate) struct Cut {
 }
 
 /// The checks that are cut.
-pub(crate) const CUTS: [Cut; 6] = [
+pub(crate) const CUTS: &[Cut] = &[
     Cut {
         name: "every beginning of body-by-length",
         message: "body-by-length",
@@ -181,7 +181,7 @@ const HEAD: &[u8] = b"HTTP/1.1 200 OK\r\nContent-Length: 0\r\na: ";
 const END: &[u8] = b"\r\n\r\n";
 
 /// The answers that are made.
-pub(crate) const MADE_STREAMS: [MadeStream; 3] = [
+pub(crate) const MADE_STREAMS: &[MadeStream] = &[
     MadeStream {
         name: "a head of 65536 bytes",
         stream: Made {

@@ -210,12 +210,12 @@ where
 fn memory_rows<R: Files + Print + AllocGlobal>(rt: &R, only: Only<'_>) -> io::Result<bool> {
     let mut all = filed_script_rows(rt, only, SCRIPTS)?;
     if only.is_none() {
-        all &= retried_rows(rt, &RETRIED)?;
+        all &= retried_rows(rt, RETRIED)?;
     }
-    all &= made_script_rows(rt, only, &MADE_SCRIPTS)?;
-    all &= check_rows(rt, only, &CHECKS)?;
-    all &= cut_rows(rt, only, &CUTS)?;
-    all &= made_stream_rows(rt, only, &MADE_STREAMS)?;
+    all &= made_script_rows(rt, only, MADE_SCRIPTS)?;
+    all &= check_rows(rt, only, CHECKS)?;
+    all &= cut_rows(rt, only, CUTS)?;
+    all &= made_stream_rows(rt, only, MADE_STREAMS)?;
     Ok(all)
 }
 
@@ -226,8 +226,8 @@ where
     R: Threads + Clock + Files + Sync + Print + AllocGlobal,
 {
     let mut all = memory_rows(rt, only)?;
-    all &= server_rows(rt, only, &SERVERS)?;
-    all &= pass_rows(rt, only, &PASSES)?;
+    all &= server_rows(rt, only, SERVERS)?;
+    all &= pass_rows(rt, only, PASSES)?;
     Ok(all)
 }
 
@@ -246,7 +246,7 @@ fn rows_after<R: Files + Print + AllocGlobal>(rt: &R, requests: usize) -> io::Re
     for _ in 0..requests {
         made.push(Box::new(rt.alloc(), 0u8)?)?;
     }
-    retried_rows(rt, &RETRIED)
+    retried_rows(rt, RETRIED)
 }
 
 // Runs what the word asks for.

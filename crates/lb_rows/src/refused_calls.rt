@@ -211,19 +211,30 @@ fn new_balancer<'a>(
     LoadBalancerCore::from_backends(alloc, registry, source, Pcg64::new(1, 2))
 }
 
+// Makes a balancer, and makes it again where memory was refused.
+fn made_balancer<'a>(
+    alloc: Global,
+    registry: &mut RegistryCore,
+    other: &'a Cell<bool>,
+    course: &mut Course,
+) -> Result<Balancer<'a>, Refusal> {
+    match new_balancer(alloc, registry, other) {
+        Err(Refusal::OutOfMemory) => {
+            course.refused(!registry.has_view(1));
+            new_balancer(alloc, registry, other)
+        }
+        made => made,
+    }
+}
+
 /// Returns whether a balancer's calls agree, and which of them was given again.
 pub(crate) fn balancer_agrees(alloc: Global) -> (bool, Again) {
     let other = Cell::new(false);
     let mut registry = RegistryCore::new(alloc);
     let mut course = Course::new();
-    let mut made = new_balancer(alloc, &mut registry, &other);
-    if is_for_memory(&made) {
-        course.refused(!registry.has_view(1));
-        made = new_balancer(alloc, &mut registry, &other);
-    }
-    if let Ok(balancer) = &mut made {
+    if let Ok(mut balancer) = made_balancer(alloc, &mut registry, &other, &mut course) {
         course.done(balancer.served.id() == 1);
-        updates(alloc, balancer, &mut registry, &other, &mut course);
+        updates(alloc, &mut balancer, &mut registry, &other, &mut course);
     }
     course.told()
 }
@@ -374,18 +385,34 @@ fn new_group<'a>(
     LoadBalancerGroupCore::from_backends_with_configs(alloc, registry, gate, source, configs)
 }
 
+// Makes a group, and makes it again where memory was refused.
+fn made_group<'a>(
+    alloc: Global,
+    registry: &mut RegistryCore,
+    gate: &GateCore,
+    other: &'a Cell<bool>,
+    course: &mut Course,
+) -> Result<Group<'a>, Refusal>
+    ensures gate { IfOk result (λ b. b.group.group.gate ≡ gate.now.id) }
+    ensures site { IfOk result (λ b. b.group.registry ≡ registry.old.id) }
+    ensures one_registry { registry.new.id ≡ registry.old.id }
+{
+    match new_group(alloc, registry, gate, other) {
+        Err(Refusal::OutOfMemory) => {
+            course.refused(!registry.has_view(1));
+            new_group(alloc, registry, gate, other)
+        }
+        made => made,
+    }
+}
+
 // A group's calls on that gate.
 fn group_agrees_on(alloc: Global, gate: &mut GateCore, course: &mut Course) {
     let other = Cell::new(false);
     let mut registry = RegistryCore::new(alloc);
-    let mut made = new_group(alloc, &mut registry, gate, &other);
-    if is_for_memory(&made) {
-        course.refused(!registry.has_view(1));
-        made = new_group(alloc, &mut registry, gate, &other);
-    }
-    if let Ok(group) = &mut made {
+    if let Ok(mut group) = made_group(alloc, &mut registry, gate, &other, course) {
         course.done(group.backend_generation() == 0);
-        updates_of_group(alloc, group, &mut registry, gate, &other, course);
+        updates_of_group(alloc, &mut group, &mut registry, gate, &other, course);
     }
 }
 
@@ -449,7 +476,7 @@ fn seen_of_registry(registry: &RegistryCore) -> (u64, [bool; 7]) {
 }
 
 // Calls with their answers, and how many cells were given after them.
-const CALLS: [(Call, u64, u64); 8] = [
+const CALLS: &[(Call, u64, u64)] = &[
     (Call::Register, 1, 0),
     (Call::Update(1, FIRST), 0, 2),
     (Call::Register, 2, 2),
@@ -461,7 +488,7 @@ const CALLS: [(Call, u64, u64); 8] = [
 ];
 
 fn calls_of_registry(alloc: Global, registry: &mut RegistryCore, course: &mut Course) {
-    for (call, wanted, cells) in &CALLS {
+    for (call, wanted, cells) in CALLS {
         let before = seen_of_registry(registry);
         let mut answered = answer(alloc, registry, *call);
         if is_for_memory(&answered) {

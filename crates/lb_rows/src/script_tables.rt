@@ -86,7 +86,7 @@ pub(crate) struct Retried {
 }
 
 /// The scripts that are run a step at a time.
-pub(crate) const RETRIED: [Retried; 9] = [
+pub(crate) const RETRIED: &[Retried] = &[
     Retried {
         name: "cancelled-while-read",
         late: &[
@@ -190,7 +190,7 @@ const KEY_SELECTED: &[u8] =
     b"registry 0\ngate 0\ngroup 0\ngeneration 1\nbuild 1\nbuilt 1\npublished 1\nbackend 1.0.0.1:80/1\n";
 
 /// The scripts that are made.
-pub(crate) const MADE_SCRIPTS: [MadeScript; 12] = [
+pub(crate) const MADE_SCRIPTS: &[MadeScript] = &[
     MadeScript {
         name: "a line of 16777216 bytes",
         script: Made {

@@ -70,7 +70,7 @@ const STATUS_LINE: &[u8] = b"HTTP/1.1 200 OK\r\n";
 const MANY_BYTES: usize = 16777216;
 
 /// The checks of servers.
-pub(crate) const SERVERS: [Server; 18] = [
+pub(crate) const SERVERS: &[Server] = &[
     Server {
         name: "a served answer",
         by: By::Http,
@@ -248,7 +248,7 @@ pub(crate) struct Pass {
 }
 
 /// The passes.
-pub(crate) const PASSES: [Pass; 7] = [
+pub(crate) const PASSES: &[Pass] = &[
     Pass {
         name: "a closed port, by TCP",
         by: By::Tcp,

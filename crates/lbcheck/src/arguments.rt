@@ -52,10 +52,10 @@ const MAX_BODY: Row = Row {
 };
 
 // lbcheck tcp
-const TCP: [Row; 1] = [ADDRESS];
+const TCP: &[Row] = &[ADDRESS];
 
 // lbcheck http
-const HTTP: [Row; 10] = [
+const HTTP: &[Row] = &[
     ADDRESS,
     Row {
         name: "host",
@@ -99,7 +99,7 @@ const HTTP: [Row; 10] = [
 ];
 
 // lbcheck replay
-const REPLAY: [Row; 3] = [METHOD, ACCEPT, MAX_BODY];
+const REPLAY: &[Row] = &[METHOD, ACCEPT, MAX_BODY];
 
 fn argument<'a>(alloc: Global, row: &Row) -> Arg<'a> {
     let argument = Arg::new(alloc, row.name)
@@ -128,23 +128,23 @@ fn with_arguments<'a>(
 }
 
 // The three commands: each one's name, the help for it, and its arguments.
-const COMMANDS: [(&str, &str, &[Row]); 3] = [
-    ("tcp", "Connects to a backend, and no more", &TCP),
+const COMMANDS: &[(&str, &str, &[Row])] = &[
+    ("tcp", "Connects to a backend, and no more", TCP),
     (
         "http",
         "Sends a request to a backend and reads its answer",
-        &HTTP,
+        HTTP,
     ),
     (
         "replay",
         "Checks an answer that stands on standard input",
-        &REPLAY,
+        REPLAY,
     ),
 ];
 
 fn commands<'a>(alloc: Global) -> Result<Vec<Command<'a>>, AllocError> {
     let mut commands = Vec::new(alloc);
-    for (name, about, rows) in &COMMANDS {
+    for (name, about, rows) in COMMANDS {
         let command = Command::new(alloc, name).about(about);
         commands.push(with_arguments(alloc, command, rows)?)?;
     }

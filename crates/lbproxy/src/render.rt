@@ -123,7 +123,7 @@ enum Measure {
 }
 
 // The metrics of backends, in order.
-const OF_BACKENDS: [(&str, MetricKind, Measure); 7] = [
+const OF_BACKENDS: &[(&str, MetricKind, Measure)] = &[
     ("lbproxy_backend_ready", MetricKind::Gauge, Measure::Ready),
     (
         "lbproxy_backend_connections",
@@ -181,7 +181,7 @@ pub fn metrics_text(alloc: Global, shown: &Shown) -> Result<Vec<u8>, AllocError>
     for (name, kind, value) in &of_proxy {
         push_one(&mut body, name, *kind, *value)?;
     }
-    for (name, kind, measure) in &OF_BACKENDS {
+    for (name, kind, measure) in OF_BACKENDS {
         push_each(&mut body, shown, name, *kind, *measure)?;
     }
     Ok(body)

@@ -14,7 +14,7 @@ use lb_select::least::LeastConnections;
 use lb_select_base::refusal::Refusal;
 use lb_select_base::walk::BackendSelection;
 use std::alloc::Global;
-use std::test::Fail;
+use std::process::Abort;
 
 // Whether the gate's permit is out.
 fn is_busy<S: BackendSelection>(ask: Ask<S>) -> bool {
@@ -66,16 +66,20 @@ fn finds_busy(
 }
 
 // Whether a group that was made on one gate asks another one, which it gets.
-fn asks_another_gate(alloc: Global) -> Result<bool, Refusal> {
-    let first = GateCore::new(alloc)?;
-    let mut gate = GateCore::new(alloc)?;
+fn asks_another_gate(alloc: Global, rt: &impl Abort) -> bool {
+    let first = GateCore::new(alloc).expect(rt, "refused");
+    let mut gate = GateCore::new(alloc).expect(rt, "refused");
     let mut registry = RegistryCore::new(alloc);
-    let mut group = group_on(alloc, &mut registry, &first)?;
-    finds_busy(alloc, &mut group, &mut registry, &mut gate)
+    let mut group = group_on(alloc, &mut registry, &first).expect(rt, "refused");
+    finds_busy(alloc, &mut group, &mut registry, &mut gate).expect(rt, "refused")
 }
 
 #[test]
-fn cores_of_gates(rt: HostRuntime) -> Result<(), Fail> {
-    assert_same(&rt, &asks_another_gate(rt.alloc())?, &true, &"another gate");
-    Ok(())
+fn cores_of_gates(rt: HostRuntime) {
+    assert_same(
+        &rt,
+        &asks_another_gate(rt.alloc(), &rt),
+        &true,
+        &"another gate",
+    );
 }

@@ -14,6 +14,7 @@ use lb_rebuild_core::group::GroupCore;
 use lb_select::selection::RoundRobin;
 use lb_select_base::refusal::Refusal;
 use std::alloc::Global;
+use std::process::Abort;
 
 type Group = GroupCore<RoundRobin>;
 
@@ -145,15 +146,17 @@ fn told(
 }
 
 // Makes the calls on a new group of one slot.
-fn played(alloc: Global) -> Result<([u64; 4], [Figures; 2]), Refusal> {
+fn played(alloc: Global, rt: &impl Abort) -> ([u64; 4], [Figures; 2]) {
     let mut registry = RegistryCore::new(alloc);
-    let mut gate = GateCore::new(alloc)?;
-    let mut group: Group = GroupCore::new(alloc, &mut registry, &gate, one_slot(alloc)?)?;
-    told(alloc, &mut registry, &mut gate, &mut group)
+    let mut gate = GateCore::new(alloc).expect(rt, "refused");
+    let slot = one_slot(alloc).expect(rt, "refused");
+    let group = GroupCore::new(alloc, &mut registry, &gate, slot);
+    let mut group: Group = group.expect(rt, "refused");
+    told(alloc, &mut registry, &mut gate, &mut group).expect(rt, "refused")
 }
 
 #[test]
 fn losses_of_a_plain_group(rt: HostRuntime) {
     let wanted = ([1, 1, 2, 2], [waiting(2, 1), waiting(2, 2)]);
-    assert!(rt; played(rt.alloc()) == Ok(wanted));
+    assert!(rt; played(rt.alloc(), &rt) == wanted);
 }

@@ -19,7 +19,7 @@ fn counted(alloc: Global, found: &Static) -> Result<(usize, bool), Refusal> {
 }
 
 // Texts, and what is found of them. Of several refusals the least number is answered, whatever the order of the texts.
-const TEXTS: [(&[&str], Result<(usize, bool), Refusal>); 4] = [
+const TEXTS: &[(&[&str], Result<(usize, bool), Refusal>)] = &[
     (&["1.1.1.1:80", "1.0.0.1:80"], Ok((2, true))),
     (&["[fe80::1%3]:80"], Err(Refusal::InvalidAddress)),
     (&["1.1.1.1"], Err(Refusal::Discovery)),
@@ -34,7 +34,7 @@ fn discoveries_of_texts(rt: HostRuntime) {
     let alloc = rt.alloc();
     let none = counted(alloc, &Static::default(alloc));
     assert_same(&rt, &none, &Ok((0, false)), &"the default");
-    for (texts, wanted) in &TEXTS {
+    for (texts, wanted) in TEXTS {
         assert_same(&rt, &found(alloc, &rt, texts), wanted, texts);
     }
 }

@@ -195,7 +195,7 @@ fn fault_is_told(alloc: Global, checked: &mut Checked, counts: &Counts, rt: &(im
 // Whether a pass finds the backend down; how often the check was asked and which reports it got then, and whether the backend is ready. The
 // first pass finds it down for the first time, the second flips it, the third finds it up and flips it back; each pass checks each target
 // once.
-const PASSES: [(bool, u64, u64, bool); 3] = [
+const PASSES: &[(bool, u64, u64, bool)] = &[
     (true, 2, 0, true),
     (true, 4, 2, false),
     (false, 6, 21, true),
@@ -208,7 +208,7 @@ fn passes<R: Abort, L: Log>(
     rt: &R,
     log: &L,
 ) {
-    for (down, asked, told, healthy) in &PASSES {
+    for (down, asked, told, healthy) in PASSES {
         counts.down.set(*down);
         let passed = checked.run(alloc, log);
         let counted = (counts.asked.get(), counts.told.get());
@@ -245,7 +245,7 @@ fn passes_are_logged<R: Abort + Log>(
 }
 
 // The lines of the passes in the log.
-const LINES: [&str; 2] = [
+const LINES: &[&str] = &[
     "[WARN  lb_health_view::passes] 1.0.0.1:80/1 becomes unhealthy, Status",
     "[INFO  lb_health_view::passes] 1.0.0.1:80/1 becomes healthy",
 ];
@@ -277,7 +277,7 @@ fn played<R: Abort + Log>(
 
 #[test]
 fn passes_of_checks(rt: HostRuntime) {
-    let named = played(rt.alloc(), false, &LINES, &rt);
+    let named = played(rt.alloc(), false, LINES, &rt);
     let silent = played(rt.alloc(), true, &[], &rt);
     assert_same(&rt, &(named, silent), &(Ok(()), Ok(())), &"played");
 }

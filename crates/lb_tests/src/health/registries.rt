@@ -160,7 +160,7 @@ const TWO_VIEWS: Calls = &[
 
 const ONE_VIEW: Calls = &[(Call::Register, Ok(Told::Number(1)))];
 
-const ROWS: [Row; 8] = [
+const ROWS: &[Row] = &[
     // Two views share the cell of one address, whatever the weights; the first view's backend is the target while it is there.
     Row {
         name: "views share a cell by address",
@@ -300,7 +300,7 @@ fn started(alloc: Global, start: Start) -> RegistryCore {
 
 #[test]
 fn rows_of_registries(rt: HostRuntime) {
-    for row in &ROWS {
+    for row in ROWS {
         let mut registry = started(rt.alloc(), row.start);
         plays_row(rt.alloc(), &mut registry, row, &rt);
     }
@@ -308,7 +308,7 @@ fn rows_of_registries(rt: HostRuntime) {
 
 // A verdict and its threshold; whether it flips the cell, and whether that is ready then. Failures count from two in a row on,
 // successes at once.
-const VERDICTS: [(bool, usize, bool, bool); 5] = [
+const VERDICTS: &[(bool, usize, bool, bool)] = &[
     (false, 2, false, true),
     (true, 1, false, true),
     (false, 2, false, true),

@@ -39,7 +39,7 @@ fn plays(rt: &impl Abort, made: Made, steps: &[Answered]) {
 }
 
 // A balancer without a frequency is updated and checked once.
-const ONCE: [Answered; 4] = [
+const ONCE: &[Answered] = &[
     (0, 0, Event::Start, Action::Update),
     (3, 0, Event::Updated(Err(Refusal::Discovery)), Action::Ready),
     (4, 0, Event::Told, Action::Check),
@@ -47,7 +47,7 @@ const ONCE: [Answered; 4] = [
 ];
 
 // One with a frequency of 10 is updated again.
-const AGAIN: [Answered; 5] = [
+const AGAIN: &[Answered] = &[
     (0, 0, Event::Start, Action::Update),
     (3, 0, Event::Updated(Ok(1)), Action::Ready),
     (4, 0, Event::Told, Action::Check),
@@ -56,7 +56,7 @@ const AGAIN: [Answered; 5] = [
 ];
 
 // Before the start all but a shutdown is held; after a shutdown all is answered by the end.
-const SHUTDOWN: [Answered; 5] = [
+const SHUTDOWN: &[Answered] = &[
     (0, 0, Event::Closed, Action::Hold),
     (1, 0, Event::Updated(Ok(1)), Action::Hold),
     (2, 0, Event::Shutdown, Action::Return),
@@ -65,7 +65,7 @@ const SHUTDOWN: [Answered; 5] = [
 ];
 
 // A group is ready where its slots serve what was discovered.
-const GROUP: [Answered; 5] = [
+const GROUP: &[Answered] = &[
     (0, 0, Event::Start, Action::Update),
     (2, 0, Event::Updated(Ok(1)), Action::Check),
     (
@@ -79,14 +79,14 @@ const GROUP: [Answered; 5] = [
 ];
 
 // A service without a check holds, until nobody can shut it down or it is shut down.
-const HOLDS: [Answered; 3] = [
+const HOLDS: &[Answered] = &[
     (0, 0, Event::Start, Action::Hold),
     (1, 0, Event::Woke, Action::Hold),
     (2, 0, Event::Closed, Action::Return),
 ];
 
 // One with a check waits for targets.
-const WAITS: [Answered; 6] = [
+const WAITS: &[Answered] = &[
     (0, 0, Event::Start, Action::Check),
     (2, 0, Event::Checked, Action::Ready),
     (3, 0, Event::Told, Action::WaitTargets),
@@ -95,7 +95,7 @@ const WAITS: [Answered; 6] = [
     (11, 0, Event::ViewRemoved, Action::WaitTargets),
 ];
 
-const ENDS: [Answered; 3] = [
+const ENDS: &[Answered] = &[
     (0, 0, Event::Start, Action::Hold),
     (1, 1, Event::Targets, Action::Hold),
     (2, 1, Event::Shutdown, Action::Return),
@@ -104,7 +104,7 @@ const ENDS: [Answered; 3] = [
 const HOUR: u128 = 3_600_000_000_000;
 
 // An hourly service checks what comes first at once, and again what comes after its last target left; it is shut down while it waits.
-const HOURLY: [Answered; 11] = [
+const HOURLY: &[Answered] = &[
     (0, 0, Event::Start, Action::Check),
     (1, 0, Event::Checked, Action::WaitTargets),
     (2, 0, Event::Woke, Action::WaitTargets),
@@ -119,7 +119,7 @@ const HOURLY: [Answered; 11] = [
 ];
 
 // One without a frequency waits for its first target, though nobody can shut it down, and checks once.
-const FIRST_TARGET: [Answered; 5] = [
+const FIRST_TARGET: &[Answered] = &[
     (0, 0, Event::Start, Action::WaitTargets),
     (1, 0, Event::Closed, Action::WaitTargets),
     (5, 1, Event::Targets, Action::Check),
@@ -152,21 +152,21 @@ impl Made {
     }
 }
 
-const RUNS: [(Made, &[Answered]); 9] = [
-    (Made::Balancer(None, true, true), &ONCE),
-    (Made::Balancer(Some(10), true, true), &AGAIN),
-    (Made::Balancer(Some(10), false, false), &SHUTDOWN),
-    (Made::Group, &GROUP),
-    (Made::Service(None, false, true), &HOLDS),
-    (Made::Service(None, false, true), &ENDS),
-    (Made::Service(Some(HOUR), true, false), &HOURLY),
-    (Made::Service(None, true, true), &FIRST_TARGET),
-    (Made::Service(Some(5), true, true), &WAITS),
+const RUNS: &[(Made, &[Answered])] = &[
+    (Made::Balancer(None, true, true), ONCE),
+    (Made::Balancer(Some(10), true, true), AGAIN),
+    (Made::Balancer(Some(10), false, false), SHUTDOWN),
+    (Made::Group, GROUP),
+    (Made::Service(None, false, true), HOLDS),
+    (Made::Service(None, false, true), ENDS),
+    (Made::Service(Some(HOUR), true, false), HOURLY),
+    (Made::Service(None, true, true), FIRST_TARGET),
+    (Made::Service(Some(5), true, true), WAITS),
 ];
 
 #[test]
 fn runs(rt: HostRuntime) {
-    for (made, steps) in &RUNS {
+    for (made, steps) in RUNS {
         plays(&rt, *made, steps);
     }
 }

@@ -19,7 +19,7 @@ struct Row {
     told: Said,
 }
 
-const ROWS: [Row; 10] = [
+const ROWS: &[Row] = &[
     // without tasks it is idle
     Row {
         update: None,
@@ -124,7 +124,7 @@ fn tells(schedule: &BackgroundSchedule, now: u128) -> Said {
 
 #[test]
 fn schedules_tell(rt: HostRuntime) {
-    for row in &ROWS {
+    for row in ROWS {
         assert!(rt; told(row) == row.told);
     }
 }

@@ -50,7 +50,7 @@ fn note(noted: &Cell<u64>, backend: &Backend) {
 }
 
 // Weights with their loads, and the weights of the backends whose loads are read.
-const READS: [(&[usize], &[u64], u64); 4] = [
+const READS: &[(&[usize], &[u64], u64)] = &[
     (&[1], &[7], 1),
     (&[2, 1], &[], 21),
     // a load that is the least, and one of a backend of weight 0
@@ -98,7 +98,7 @@ fn reads(alloc: Global, weights: &[usize], loads: &[u64]) -> Result<[u64; 4], Re
 
 #[test]
 fn each_load_is_read_once_as_a_walk_begins(rt: HostRuntime) {
-    for (weights, loads, wanted) in &READS {
+    for (weights, loads, wanted) in READS {
         let found = reads(rt.alloc(), weights, loads);
         assert_same(&rt, &found, &Ok([*wanted, *wanted, *wanted, 0]), loads);
     }
@@ -106,7 +106,7 @@ fn each_load_is_read_once_as_a_walk_begins(rt: HostRuntime) {
 
 // The first ticket, the limit, the weights that are accepted, and the weights of those that are asked about. The candidates of
 // ticket 0 are of weights 1, 2, 3, 1 and so on, those of ticket 4 of 3, 3, 1, 2 and so on.
-const ASKS: [(u64, usize, Range<usize>, u64); 9] = [
+const ASKS: &[(u64, usize, Range<usize>, u64)] = &[
     // none after the one that is accepted
     (0, 9, 0..9, 1),
     (0, 9, 2..3, 12),
@@ -154,7 +154,7 @@ fn three_weights(alloc: Global) -> Result<Arc<RoundRobin>, Refusal> {
 #[test]
 fn each_candidate_is_asked_about_once(rt: HostRuntime) -> Result<(), Fail> {
     let selector = three_weights(rt.alloc())?;
-    for (ticket, limit, accepted, wanted) in &ASKS {
+    for (ticket, limit, accepted, wanted) in ASKS {
         let found = asked(rt.alloc(), &selector, *ticket, *limit, accepted);
         assert_same(&rt, &found, &Ok(*wanted), &(*ticket, *limit));
     }

@@ -109,7 +109,7 @@ const B2: (&str, usize) = ("1.0.0.1:80", 1);
 
 const B3: (&str, usize) = ("1.0.0.255:80", 1);
 
-const KEYS: [&[u8]; 10] = [
+const KEYS: &[&[u8]] = &[
     b"test0", b"test1", b"test2", b"test3", b"test4", b"test5", b"test6", b"test7", b"test8",
     b"test9",
 ];

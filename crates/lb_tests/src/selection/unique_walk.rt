@@ -21,7 +21,7 @@ const B2: &str = "1.0.0.1:80";
 const B3: &str = "1.0.0.255:80";
 
 // The addresses of a list, the limit, the number of turns, and the turns that are wanted.
-const LISTS: [(&[&str], usize, usize, &str); 3] = [
+const LISTS: &[(&[&str], usize, usize, &str)] = &[
     (&[B1, B1, B2, B2, B2, B3], 4, 3, "1.1.1.1:80 1.0.0.1:80 - "),
     (&[B1, B2, B3], 1, 2, "1.1.1.1:80 - "),
     (&[B1, B1, B2], 9, 4, "1.1.1.1:80 1.0.0.1:80 - - "),
@@ -87,7 +87,7 @@ fn repeated_turns(alloc: Global) -> Result<String, Refusal> {
 #[test]
 fn unique_walks(rt: HostRuntime) {
     let alloc = rt.alloc();
-    for (addresses, limit, count, wanted) in &LISTS {
+    for (addresses, limit, count, wanted) in LISTS {
         let text = list_turns(alloc, addresses, *limit, *count);
         assert_row(&rt, is_text(&text, wanted), wanted);
     }

@@ -18,7 +18,7 @@ struct Row {
     next: u64,
 }
 
-const ROWS: [Row; 5] = [
+const ROWS: &[Row] = &[
     Row {
         members: &[("1.1.1.1:80", 1), ("1.0.0.1:80", 10), ("1.0.0.255:80", 1)],
         ticket: 0,
@@ -78,7 +78,7 @@ fn walks(alloc: Global, row: &Row, words: &mut CoreWords<Pcg64>) -> Result<Strin
 
 #[test]
 fn weighted_walks(rt: HostRuntime) {
-    for row in &ROWS {
+    for row in ROWS {
         let mut words = words_from(row.ticket);
         let found = walks(rt.alloc(), row, &mut words);
         let is_wanted = is_text(&found, row.wanted) && words.tickets == row.next;

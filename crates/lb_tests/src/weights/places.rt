@@ -28,7 +28,7 @@ fn found(
 }
 
 // The weights, how many probes a search may take, which is the number of binary digits of their count, a place, and the backend there.
-const PLACES: [(&[usize], u32, u64, Option<usize>); 26] = [
+const PLACES: &[(&[usize], u32, u64, Option<usize>)] = &[
     (&[1, 0, 5], 2, 0, Some(0)),
     (&[1, 0, 5], 2, 1, Some(2)),
     (&[1, 0, 5], 2, 5, Some(2)),
