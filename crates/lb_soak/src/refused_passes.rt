@@ -82,7 +82,7 @@ fn look_at<W: Wait>(rt: &W, alloc: Global, registry: &Registry, found: &Found) -
 type Row = (bool, bool, [bool; 3], u64);
 
 // The weights are 2, 3 and 4.
-const ROWS: [Row; 4] = [
+const ROWS: &[Row] = &[
     (false, false, [false, true, false], 2),
     (true, false, [false, true, false], 2),
     (true, true, [true, false, true], 5),
@@ -98,7 +98,7 @@ fn play<W: Log + Threads + Wait + Copy + Sync + Drop>(
     course: &mut Course,
 ) {
     let mut number: usize = 0;
-    for (is_parallel, odd_fail, ready, flips) in &ROWS {
+    for (is_parallel, odd_fail, ready, flips) in ROWS {
         number = number.saturating_add(1);
         found.odd_fail.store(*odd_fail, SeqCst);
         let before = look_at(rt, alloc, registry, found);

@@ -1,5 +1,6 @@
 //! The shared types whose calls are made while memory is refused.
 use crate::refused::{Call, Course, FIRST, Lists, Seen, Subject, Ticks, set_of};
+use lb_background::lending::LendsToThreads;
 use lb_balancer::load_balancer::LoadBalancer;
 use lb_balancer_core::turn::Turn;
 use lb_balancer_group::group::LoadBalancerGroup;
@@ -299,12 +300,11 @@ impl<W: Wait, S: BackendSelection> Subject for Calls<W, Balancer<S>> {
     }
 
     fn is_ready(&self, backend: &Backend) -> bool {
-        self.subject.backends().ready(&self.site.rt, backend)
+        self.subject.newest_ready(&self.site.rt, backend)
     }
 
     fn disable(&self, backend: &Backend) {
-        let (rt, alloc) = (&self.site.rt, self.site.alloc);
-        self.subject.backends().set_enable(rt, backend, false);
+        self.subject.flag(&self.site.rt, backend, false);
     }
 
     fn make(&self, call: Call) -> Result<u64, Refusal> {
@@ -366,13 +366,11 @@ impl<W: Wait> Subject for Calls<W, Group> {
     }
 
     fn is_ready(&self, backend: &Backend) -> bool {
-        self.subject.backends().ready(&self.site.rt, backend)
+        self.subject.newest_ready(&self.site.rt, backend)
     }
 
     fn disable(&self, backend: &Backend) {
-        self.subject
-            .backends()
-            .set_enable(&self.site.rt, backend, false);
+        self.subject.flag(&self.site.rt, backend, false);
     }
 
     fn make(&self, call: Call) -> Result<u64, Refusal> {

@@ -92,8 +92,11 @@ impl HealthCheck for Flips {
     }
 }
 
-/// A group of the soak.
+/// The handle of a group of the soak.
 pub type Handle<W, S> = LoadBalancerGroup<Counted<W, S>, Generations, Rule<NoRule>, Flips>;
+
+// A group of the soak that threads share.
+type Group<W, S> = SharedGroup<Configured<Counted<W, S>>, Rule<NoRule>, Flips>;
 
 /// A registry of the soak. The caller makes it, since a function that made one would hide its boxed rule.
 pub type Registry = HealthRegistry<Rule<NoRule>, Flips>;
@@ -161,13 +164,16 @@ fn shared_of<
     ])
 }
 
-// Whether the workers of three groups end. The groups are dropped then.
-fn all_end<S: BackendSelection, R: KeyRule + Drop, C: HealthCheck + Drop, W: Wait + Clock>(
-    rt: &W,
-    groups: [Arc<SharedGroup<S, R, C>>; 3],
-) -> bool {
-    let mut have_ended = true;
-    for group in &groups {
+// Whether the workers of four groups end. The groups are dropped then.
+fn all_end<
+    S: BackendSelection,
+    T: BackendSelection,
+    R: KeyRule + Drop,
+    C: HealthCheck + Drop,
+    W: Wait + Clock,
+>(rt: &W, (chosen, random): ([Arc<SharedGroup<S, R, C>>; 3], Arc<SharedGroup<T, R, C>>)) -> bool {
+    let mut have_ended = ends(rt, &*random, TURNS);
+    for group in &chosen {
         have_ended &= ends(rt, &**group, TURNS);
     }
     have_ended
@@ -228,19 +234,24 @@ impl<W: Wait + Clock + Copy + Drop> Groups<W> {
     /// Drops the groups. Returns whether their workers end, no more selectors than the slots and one lived on a gate, none lives on, each
     /// permit is back, and the registries have nothing to check.
     pub fn leave(self, rt: &W, alloc: Global, site: &Site) -> Result<[bool; 5], Refusal> {
-        let shared = shared_of(&self.chosen)?;
-        let random = Arc::try_clone(self.random.shared())?;
+        let shared = self.shared()?;
         let Groups {
             counts,
             chosen,
-            random: handle,
+            random,
         } = self;
         drop(chosen);
-        drop(handle);
-        let has_ended = ends(rt, &*random, TURNS);
         drop(random);
-        let have_ended = all_end(rt, shared) && has_ended;
+        let have_ended = all_end(rt, shared);
         Ok(left(rt, alloc, site, &counts, have_ended))
+    }
+
+    // The groups themselves, which outlive their handles.
+    fn shared(&self) -> Result<([Arc<Group<W, Chosen>>; 3], Arc<Group<W, Random>>), Refusal> {
+        Ok((
+            shared_of(&self.chosen)?,
+            Arc::try_clone(self.random.shared())?,
+        ))
     }
 }
 
