@@ -1,6 +1,7 @@
 //! Makes what the loops share from a configuration.
 
 use crate::check::ProxyCheck;
+use crate::group::{Group, group_of};
 use crate::pool::{Common, Commons, Pool, Registry};
 use crate::proxy::{Counts, Listen, Proxy};
 use crate::source::PoolBackends;
@@ -65,6 +66,11 @@ fn kinds_of(
         }
     }
     Ok(kinds)
+}
+
+// Whether a slot goes by loads.
+fn has_least(kinds: &[Option<Kind>]) -> bool {
+    kinds.iter().any(|kind| *kind == Some(Kind::Least))
 }
 
 // How many of the listeners are on the pool.
@@ -157,7 +163,7 @@ fn pools_of<R: Log + Wait + Copy + Drop, C: HealthCheck + Drop>(
     pools: Vec<PoolConfig>,
     listens: &[ListenConfig],
     commons: &Commons<C>,
-) -> Result<Vec<Pool<R, C>>, Refusal> {
+) -> Result<Vec<Pool<Group<R, C>>>, Refusal> {
     let mut made = Vec::new(alloc);
     for pool in pools {
         let number = made.len();
@@ -174,10 +180,12 @@ fn pool_of<R: Log + Wait + Copy + Drop, C: HealthCheck + Drop>(
     pool: PoolConfig,
     kinds: Vec<Option<Kind>>,
     common: &Common<C>,
-) -> Result<Pool<R, C>, Refusal> {
+) -> Result<Pool<Group<R, C>>, Refusal> {
     let (name, source) = pool.into_parts();
     let backends = Arc::new(alloc, PoolBackends::new(alloc, source))?;
-    Pool::new(rt, alloc, name, backends, kinds, common)
+    let by_load = has_least(kinds.as_slice());
+    let group = group_of(rt, alloc, Arc::try_clone(&backends)?, kinds, common)?;
+    Ok(Pool::new(alloc, name, backends, group, by_load))
 }
 
 /// Returns what the loops share.
@@ -186,16 +194,27 @@ pub fn build<R: Log + Wait + Copy + Drop, C: HealthCheck + Drop>(
     alloc: Global,
     config: Config,
     commons: &Commons<C>,
-) -> Result<Proxy<R, C>, Refusal> {
+) -> Result<Proxy<Group<R, C>>, Refusal> {
     let Config {
         limits,
         pools,
         listens,
         ..
     } = config;
+    let pools = pools_of(rt, alloc, pools, listens.as_slice(), commons)?;
+    Ok(proxy_of(alloc, limits, listens, pools)?)
+}
+
+// A proxy over these pools.
+fn proxy_of<G: Drop>(
+    alloc: Global,
+    limits: Limits,
+    listens: Vec<ListenConfig>,
+    pools: Vec<Pool<G>>,
+) -> Result<Proxy<G>, AllocError> {
     Ok(Proxy {
         listens: slots_of(alloc, listens.as_slice())?,
-        pools: pools_of(rt, alloc, pools, listens.as_slice(), commons)?,
+        pools,
         settings: settings_of(alloc, limits, listens)?,
         counts: Counts {
             live: AtomicU64::new(0),

@@ -1,9 +1,9 @@
 //! Enables and disables backends, as requests to the status page ask.
 
+use crate::group::PoolGroup;
 use crate::pool::Pool;
 use crate::proxy::Proxy;
 use log::{Log, info};
-use pingora_load_balancing::health_check::HealthCheck;
 use pingora_load_balancing::{Backend, Refusal};
 use std::alloc::{AllocError, Global};
 use std::sync::Wait;
@@ -33,10 +33,10 @@ fn flag_of(target: &str) -> Option<Flag<'_>> {
 }
 
 /// Sets the flag that a target names. Returns whether there is such a backend; where there is none, nothing changes.
-pub fn set_flag<R: Log + Wait + Copy + Drop, C: HealthCheck + Drop>(
+pub fn set_flag<R: Log + Wait, G: PoolGroup>(
     rt: &R,
     alloc: Global,
-    proxy: &Proxy<R, C>,
+    proxy: &Proxy<G>,
     target: &str,
 ) -> Result<bool, Refusal> {
     let Some(flag) = flag_of(target) else {
@@ -51,17 +51,17 @@ pub fn set_flag<R: Log + Wait + Copy + Drop, C: HealthCheck + Drop>(
 }
 
 // Sets the flag of each backend of the pool with its address. Returns whether there is one.
-fn set_in<R: Log + Wait + Copy + Drop, C: HealthCheck + Drop>(
+fn set_in<R: Log + Wait, G: PoolGroup>(
     rt: &R,
     alloc: Global,
-    pool: &Pool<R, C>,
+    pool: &Pool<G>,
     flag: &Flag<'_>,
 ) -> Result<bool, Refusal> {
-    let members = pool.group.backends().get_backend(rt)?;
+    let members = pool.members(rt)?;
     let mut is_there = false;
     for backend in members.iter() {
         if is_at(alloc, backend, flag.address)? {
-            pool.group.backends().set_enable(rt, backend, flag.enabled);
+            pool.set_enabled(rt, backend, flag.enabled);
             is_there = true;
         }
     }

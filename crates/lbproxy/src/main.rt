@@ -5,6 +5,7 @@ mod arguments;
 mod build;
 mod check;
 mod flag;
+mod group;
 mod pool;
 mod proxy;
 mod render;

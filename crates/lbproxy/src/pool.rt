@@ -1,30 +1,20 @@
 //! A pool: a group with a slot for each listener on it, and what its backends have carried.
 
-use crate::source::{PoolBackends, PoolDiscovery};
+use crate::group::{Answer, Call, PoolGroup};
+use crate::shown::ShownSlot;
+use crate::source::PoolBackends;
 use lb_proxy::attempts::Attempts;
 use lb_proxy::event_loop::upstream::Happened;
 use log::{Log, info, warn};
-use pingora_load_balancing::background::{RuntimeClock, start_workers};
-use pingora_load_balancing::discovery::DiscoverySource;
 use pingora_load_balancing::health_check::{HealthCheck, NoRule, Rule};
-use pingora_load_balancing::selection::{Chosen, Kind};
-use pingora_load_balancing::{
-    Backend, Backends, GateRefusal, HealthRegistry, LoadBalancerGroup, Refusal, SelectorRebuildGate,
-};
+use pingora_load_balancing::{Backend, HealthRegistry, Refusal, SelectorRebuildGate};
 use std::alloc::{AllocError, Global};
-use std::collections::BTreeMap;
+use std::collections::{BTreeMap, BTreeSet};
 use std::sync::{Arc, Mutex, Wait};
-use std::thread::Threads;
 use std::time::Clock;
-
-// How many candidates a selection looks at.
-const CANDIDATES: usize = 256;
 
 /// The registry of all pools that have the same check.
 pub type Registry<C> = HealthRegistry<Rule<NoRule>, C>;
-
-/// The group of a pool.
-pub type Group<R, C> = LoadBalancerGroup<Chosen, PoolDiscovery<R>, Rule<NoRule>, C>;
 
 /// What a backend has carried. In http mode `live` counts the requests that are in progress, and `total` the connections.
 #[derive(Clone, Copy)]
@@ -40,11 +30,11 @@ pub struct Traffic {
 /// What the backends of a pool have carried.
 pub type TrafficTable = BTreeMap<Backend, Traffic>;
 
-/// A pool.
+/// A pool over a group of type `G`.
 #[derive(Drop)]
-pub struct Pool<R: Log + Wait + Drop, C: HealthCheck + Drop> {
+pub struct Pool<G> {
     pub name: String,
-    pub group: Arc<Group<R, C>>,
+    pub group: G,
     pub backends: Arc<PoolBackends>,
     pub traffic: Mutex<TrafficTable>,
     // Whether a slot goes by loads.
@@ -75,28 +65,41 @@ impl<C: HealthCheck + Drop> Commons<C> {
     }
 }
 
-impl<R: Log + Wait + Copy + Drop, C: HealthCheck + Drop> Pool<R, C> {
-    /// Returns a pool with a slot of each of these kinds, without workers.
+impl<G> Pool<G> {
+    /// Returns a pool over a group. `by_load` says whether a slot of it goes by loads.
     pub fn new(
-        rt: R,
         alloc: Global,
         name: String,
         backends: Arc<PoolBackends>,
-        kinds: Vec<Option<Kind>>,
-        common: &Common<C>,
-    ) -> Result<Pool<R, C>, Refusal> {
-        let discovery = PoolDiscovery {
-            rt,
-            backends: Arc::try_clone(&backends)?,
-        };
-        let by_load = has_least(kinds.as_slice());
-        Ok(Pool {
+        group: G,
+        by_load: bool,
+    ) -> Pool<G> {
+        Pool {
             name,
-            group: Arc::new(alloc, group_of(&rt, alloc, discovery, kinds, common)?)?,
+            group,
             backends,
             traffic: Mutex::new(BTreeMap::new(alloc)),
             by_load,
-        })
+        }
+    }
+
+    /// Returns what a backend has carried.
+    pub fn traffic_of<W: Wait>(&self, rt: &W, backend: &Backend) -> Traffic {
+        match self.traffic.lock(rt).get(backend) {
+            Some(traffic) => *traffic,
+            None => Traffic::new(),
+        }
+    }
+}
+
+impl<G: PoolGroup> Pool<G> {
+    /// Discovers the backends, and has the workers build.
+    pub fn update<W: Log + Wait + Clock + Copy + Drop>(&self, rt: &W, alloc: Global) {
+        let name = self.name.as_str();
+        match self.group.update(rt, alloc) {
+            Ok(generation) => info!(rt; "pool {name}: generation {generation}"),
+            Err(refusal) => warn!(rt; "pool {name}: stays as it was: {refusal}"),
+        }
     }
 
     /// Returns a ready backend for a connection, none that was tried before.
@@ -108,33 +111,13 @@ impl<R: Log + Wait + Copy + Drop, C: HealthCheck + Drop> Pool<R, C> {
         key: &[u8],
         attempts: &Attempts,
     ) -> Option<Backend> {
-        let accept = |backend: &Backend, ready: bool| ready && !attempts.was_tried(backend);
-        match self
-            .group
-            .select_with(rt, alloc, slot, key, CANDIDATES, &accept)
-        {
+        match self.group.select(rt, alloc, slot, key, attempts) {
             Ok(selected) => selected,
             Err(refusal) => {
                 let name = self.name.as_str();
                 warn!(rt; "pool {name}: no selection: {refusal}");
                 None
             }
-        }
-    }
-
-    /// Returns whether the backend is in the pool.
-    pub fn has<W: Wait>(&self, rt: &W, backend: &Backend) -> bool {
-        match self.group.backends().get_backend(rt) {
-            Ok(members) => members.contains(backend),
-            Err(_) => true,
-        }
-    }
-
-    /// Returns what a backend has carried.
-    pub fn traffic_of<W: Wait>(&self, rt: &W, backend: &Backend) -> Traffic {
-        match self.traffic.lock(rt).get(backend) {
-            Some(traffic) => *traffic,
-            None => Traffic::new(),
         }
     }
 
@@ -145,9 +128,61 @@ impl<R: Log + Wait + Copy + Drop, C: HealthCheck + Drop> Pool<R, C> {
         let mut traffic = self.traffic.lock(rt);
         if let Ok(live) = counted(&mut *traffic, alloc, backend, happened) {
             if self.by_load {
-                let _ = self.group.set_load(rt, alloc, backend, live);
+                let _ = self.group.ask(rt, Call::SetLoad(alloc, backend, live));
             }
         }
+    }
+
+    /// Returns the newest generation.
+    pub fn generation<W: Wait>(&self, rt: &W) -> u64 {
+        match self.group.ask(rt, Call::Generation) {
+            Answer::Generation(generation) => generation,
+            _ => 0,
+        }
+    }
+
+    /// Returns whether each slot serves the newest generation.
+    pub fn is_built<W: Wait>(&self, rt: &W) -> bool {
+        self.holds(rt, Call::IsBuilt)
+    }
+
+    /// Returns what the slots serve, in order.
+    pub fn slots<W: Wait>(&self, rt: &W, alloc: Global) -> Result<Vec<ShownSlot>, Refusal> {
+        match self.group.ask(rt, Call::Slots(alloc)) {
+            Answer::Slots(slots) => slots,
+            _ => Err(Refusal::NoSuch),
+        }
+    }
+
+    /// Returns the backends.
+    pub fn members<W: Wait>(&self, rt: &W) -> Result<Arc<BTreeSet<Backend>>, Refusal> {
+        match self.group.ask(rt, Call::Members) {
+            Answer::Members(members) => members,
+            _ => Err(Refusal::NoSuch),
+        }
+    }
+
+    /// Returns whether the backend is in the pool.
+    pub fn has<W: Wait>(&self, rt: &W, backend: &Backend) -> bool {
+        match self.members(rt) {
+            Ok(members) => members.contains(backend),
+            Err(_) => true,
+        }
+    }
+
+    /// Returns whether the backend is ready.
+    pub fn is_ready<W: Wait>(&self, rt: &W, backend: &Backend) -> bool {
+        self.holds(rt, Call::IsReady(backend))
+    }
+
+    /// Enables or disables the backend.
+    pub fn set_enabled<W: Wait>(&self, rt: &W, backend: &Backend, enabled: bool) {
+        let _ = self.group.ask(rt, Call::SetEnabled(backend, enabled));
+    }
+
+    // Makes a call that answers whether something holds.
+    fn holds<W: Wait>(&self, rt: &W, call: Call<'_>) -> bool {
+        matches!(self.group.ask(rt, call), Answer::Holds(true))
     }
 }
 
@@ -186,11 +221,6 @@ impl Traffic {
     }
 }
 
-// Whether a slot goes by loads.
-fn has_least(kinds: &[Option<Kind>]) -> bool {
-    kinds.iter().any(|kind| *kind == Some(Kind::Least))
-}
-
 // Counts what happened at the backend. Returns how many connections are live there.
 fn counted(
     table: &mut TrafficTable,
@@ -206,46 +236,4 @@ fn counted(
     traffic.count(happened);
     table.insert(backend.copied(alloc)?, traffic)?;
     Ok(traffic.live)
-}
-
-// The group of a pool, on this registry and the gate of all.
-fn group_of<R: Log + Wait + Drop, C: HealthCheck + Drop>(
-    rt: &R,
-    alloc: Global,
-    discovery: PoolDiscovery<R>,
-    kinds: Vec<Option<Kind>>,
-    common: &Common<C>,
-) -> Result<Group<R, C>, Refusal> {
-    let registry = Arc::try_clone(&common.registry)?;
-    let gate = Arc::try_clone(&common.gate)?;
-    let discovery = DiscoverySource::Boxed(discovery);
-    let backends = Backends::new_with_health_registry(rt, alloc, discovery, registry)?;
-    let mut group = LoadBalancerGroup::from_backends_with_configs(rt, alloc, backends, kinds)?;
-    let refusal = match group.with_rebuild_gate(rt, alloc, gate) {
-        Ok(()) => return Ok(group),
-        Err(GateRefusal::NotMade(refusal)) => refusal,
-        Err(GateRefusal::WasUpdated) => Refusal::NoSuch,
-    };
-    Err(refusal)
-}
-
-impl<
-    R: Log + Threads + Wait + Clock + Copy + Drop + Send + Sync + 'static,
-    C: HealthCheck + Drop + Send + Sync + 'static,
-> Pool<R, C> {
-    /// Starts the workers. Returns how many couldn't be started.
-    pub fn start(&self, rt: &R, alloc: Global) -> usize {
-        start_workers(rt, alloc, self.group.shared(), RuntimeClock::new(*rt))
-    }
-}
-
-impl<R: Log + Wait + Clock + Copy + Drop, C: HealthCheck + Drop> Pool<R, C> {
-    /// Discovers the backends, and has the workers build.
-    pub fn update(&self, rt: &R, alloc: Global) {
-        let name = self.name.as_str();
-        match self.group.update(rt, alloc, &mut RuntimeClock::new(*rt)) {
-            Ok(generation) => info!(rt; "pool {name}: generation {generation}"),
-            Err(refusal) => warn!(rt; "pool {name}: stays as it was: {refusal}"),
-        }
-    }
 }

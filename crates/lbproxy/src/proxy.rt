@@ -1,12 +1,12 @@
 //! What the loops of a proxy share: the pools, the listeners and the counts.
 
+use crate::group::PoolGroup;
 use crate::pool::Pool;
 use lb_proxy::attempts::Attempts;
 use lb_proxy::event_loop::settings::Settings;
 use lb_proxy::event_loop::upstream::{Counted, Happened, Upstream};
 use log::{Log, warn};
 use pingora_load_balancing::Backend;
-use pingora_load_balancing::health_check::HealthCheck;
 use std::alloc::Global;
 use std::sync::atomic::{AtomicU64, Ordering};
 use std::sync::{Arc, Wait};
@@ -29,10 +29,10 @@ pub struct Counts {
     pub unserved: AtomicU64,
 }
 
-/// What the loops share.
+/// What the loops share, over groups of type `G`.
 #[derive(Drop)]
-pub struct Proxy<R: Log + Wait + Drop, C: HealthCheck + Drop> {
-    pub pools: Vec<Pool<R, C>>,
+pub struct Proxy<G> {
+    pub pools: Vec<Pool<G>>,
     pub listens: Vec<Listen>,
     pub settings: Arc<Settings>,
     pub counts: Counts,
@@ -40,9 +40,9 @@ pub struct Proxy<R: Log + Wait + Drop, C: HealthCheck + Drop> {
     pub ends: AtomicU64,
 }
 
-impl<R: Log + Wait + Copy + Drop, C: HealthCheck + Drop> Proxy<R, C> {
+impl<G> Proxy<G> {
     // The pool of a listener, and its slot there.
-    fn slot_of(&self, listener: usize) -> Option<(&Pool<R, C>, usize)> {
+    fn slot_of(&self, listener: usize) -> Option<(&Pool<G>, usize)> {
         let listen = self.listens.get(listener)?;
         let pool = self.pools.get(listen.pool)?;
         Some((pool, listen.slot))
@@ -57,7 +57,7 @@ impl<R: Log + Wait + Copy + Drop, C: HealthCheck + Drop> Proxy<R, C> {
     }
 }
 
-impl<R: Log + Wait + Copy + Drop, C: HealthCheck + Drop> Upstream for Proxy<R, C> {
+impl<G: PoolGroup> Upstream for Proxy<G> {
     fn select<W: Log + Wait>(
         &self,
         rt: &W,

@@ -1,14 +1,21 @@
 //! Starts a proxy and its threads, and ends them in order.
 
 use crate::build::{bind, build};
+use crate::group::{Group, PoolGroup};
 use crate::pool::{Common, Commons};
 use crate::proxy::Proxy;
 use crate::threads::{Service, Thread, start_checks, start_looking, start_loop, start_page};
 use lb_proxy::config::{CheckConfig, Config};
+use lb_proxy::event_loop::settings::Settings;
+use lb_proxy::event_loop::upstream::Upstream;
 use log::{Log, error, info};
-use pingora_load_balancing::background::{ShutdownSignal, ShutdownWatch, shutdown_pair};
-use pingora_load_balancing::health_check::HealthCheck;
-use pingora_load_balancing::{HealthCheckService, Refusal};
+use pingora_load_balancing::background::{
+    RuntimeClock, ShutdownSignal, ShutdownWatch, shutdown_pair,
+};
+use pingora_load_balancing::discovery::ServiceDiscovery;
+use pingora_load_balancing::health_check::{HealthCheck, KeyRule};
+use pingora_load_balancing::selection::BackendSelection;
+use pingora_load_balancing::{HealthCheckService, LoadBalancerGroup, Refusal};
 use std::alloc::Global;
 use std::io::Read;
 use std::net::{Net, TcpListener, TcpStream};
@@ -57,8 +64,94 @@ where
     let opened = open(net, alloc, commons, &config)?;
     let count = thread_count(&rt, config.limits.threads);
     let proxy = Arc::new(alloc, build(rt, alloc, config, commons)?)?;
-    begin(&rt, alloc, &*proxy);
-    let running = opened.start(rt, alloc, &proxy, count)?;
+    start_workers(&rt, alloc, &*proxy);
+    run_groups(rt, alloc, opened, &proxy, count, until_eof)
+}
+
+// Starts the workers of all pools.
+fn start_workers<R, C>(rt: &R, alloc: Global, proxy: &Proxy<Group<R, C>>)
+where
+    R: Log + Threads + Wait + Clock + Copy + Drop + Send + Sync + 'static,
+    C: HealthCheck + Drop + Send + Sync + 'static,
+{
+    for pool in proxy.pools.iter() {
+        let name = pool.name.as_str();
+        if pool.group.start_workers(rt, alloc, RuntimeClock::new(*rt)) > 0 {
+            error!(rt; "pool {name}: a worker couldn't be started");
+        }
+    }
+}
+
+// Runs a proxy over groups of these types. Only here are groups given for the type parameter of `run`: where the groups' own types are
+// parameters, the checker compares their bounds alone.
+fn run_groups<S, D, K, C, R>(
+    rt: R,
+    alloc: Global,
+    opened: Opened<C>,
+    proxy: &Arc<Proxy<LoadBalancerGroup<S, D, K, C>>>,
+    count: u64,
+    until_eof: bool,
+) -> Result<(), anyhow::Error>
+where
+    S: BackendSelection + Send + Sync + 'static,
+    S::Config: Send + Sync + 'static,
+    S::Walk: Send + Sync + 'static,
+    D: ServiceDiscovery + Drop + Send + Sync + 'static,
+    K: KeyRule + Drop + Send + Sync + 'static,
+    C: HealthCheck + Drop + Send + Sync + 'static,
+    R: Log
+        + Net
+        + Files
+        + Input
+        + Threads
+        + Wait
+        + Clock
+        + AllocGlobal
+        + Copy
+        + Drop
+        + Send
+        + Sync
+        + 'static,
+    R::Stream: Send + Sync + 'static,
+    R::Listener: Send + Sync + 'static,
+    R::File: Send + Sync + 'static,
+    R::Dir: Send + Sync + 'static,
+{
+    run(rt, alloc, opened, proxy, count, until_eof)
+}
+
+// Runs a proxy to its end, with so many loops.
+fn run<R, G, C>(
+    rt: R,
+    alloc: Global,
+    opened: Opened<C>,
+    proxy: &Arc<Proxy<G>>,
+    count: u64,
+    until_eof: bool,
+) -> Result<(), anyhow::Error>
+where
+    R: Log
+        + Net
+        + Files
+        + Input
+        + Threads
+        + Wait
+        + Clock
+        + AllocGlobal
+        + Copy
+        + Drop
+        + Send
+        + Sync
+        + 'static,
+    R::Stream: Send + Sync + 'static,
+    R::Listener: Send + Sync + 'static,
+    R::File: Send + Sync + 'static,
+    R::Dir: Send + Sync + 'static,
+    G: PoolGroup + Drop + Send + Sync + 'static,
+    C: HealthCheck + Drop + Send + Sync + 'static,
+{
+    begin(&rt, alloc, &**proxy);
+    let running = opened.start(rt, alloc, proxy, count)?;
     end(&rt, &proxy.ends, running, until_eof);
     Ok(())
 }
@@ -111,11 +204,11 @@ where
 
 impl<C: HealthCheck + Drop + Send + Sync + 'static> Opened<C> {
     // Starts the threads.
-    fn start<R>(
+    fn start<R, G>(
         self,
         rt: R,
         alloc: Global,
-        proxy: &Arc<Proxy<R, C>>,
+        proxy: &Arc<Proxy<G>>,
         count: u64,
     ) -> Result<Running, anyhow::Error>
     where
@@ -135,6 +228,7 @@ impl<C: HealthCheck + Drop + Send + Sync + 'static> Opened<C> {
         R::Listener: Send + Sync + 'static,
         R::File: Send + Sync + 'static,
         R::Dir: Send + Sync + 'static,
+        G: PoolGroup + Drop + Send + Sync + 'static,
     {
         let Opened {
             listeners,
@@ -143,7 +237,7 @@ impl<C: HealthCheck + Drop + Send + Sync + 'static> Opened<C> {
         } = self;
         let (signal, watch) = shutdown_pair(alloc)?;
         let helpers = start_helpers(rt, alloc, proxy, &watch, services, page)?;
-        let loops = start_loops(rt, alloc, proxy, listeners, count)?;
+        let loops = start_loops(rt, alloc, proxy, &proxy.settings, listeners, count)?;
         Ok(Running {
             signal,
             helpers,
@@ -246,24 +340,17 @@ fn page_of<N: Net<Listener = TcpListener, Stream = TcpStream>>(
     Ok(Some(page))
 }
 
-// Starts the workers of all pools, and waits for their first selectors.
-fn begin<R, C>(rt: &R, alloc: Global, proxy: &Proxy<R, C>)
+// Updates all pools, and waits for their first selectors.
+fn begin<R, G>(rt: &R, alloc: Global, proxy: &Proxy<G>)
 where
-    R: Log + Files + Threads + Wait + Clock + AllocGlobal + Copy + Drop + Send + Sync + 'static,
-    C: HealthCheck + Drop + Send + Sync + 'static,
+    R: Log + Files + Threads + Wait + Clock + AllocGlobal + Copy + Drop,
+    G: PoolGroup,
 {
     for pool in proxy.pools.iter() {
-        let name = pool.name.as_str();
-        if pool.start(rt, alloc) > 0 {
-            error!(rt; "pool {name}: a worker couldn't be started");
-        }
         pool.backends.look(rt, alloc);
         pool.update(rt, alloc);
         for _ in 0..LOOKS {
-            if pool
-                .group
-                .selectors_ready_for(rt, pool.group.backend_generation(rt))
-            {
+            if pool.is_built(rt) {
                 break;
             }
             thread::sleep(rt, Duration::from_millis(PAUSE));
@@ -272,10 +359,10 @@ where
 }
 
 // Starts the threads that check, read files and answer at the status page.
-fn start_helpers<R, C>(
+fn start_helpers<R, G, C>(
     rt: R,
     alloc: Global,
-    proxy: &Arc<Proxy<R, C>>,
+    proxy: &Arc<Proxy<G>>,
     watch: &ShutdownWatch,
     services: Vec<Service<C>>,
     page: Option<TcpListener>,
@@ -284,6 +371,7 @@ where
     R: Log + Files + Threads + Wait + Clock + AllocGlobal + Copy + Drop + Send + Sync + 'static,
     R::File: Send + Sync + 'static,
     R::Dir: Send + Sync + 'static,
+    G: PoolGroup + Drop + Send + Sync + 'static,
     C: HealthCheck + Drop + Send + Sync + 'static,
 {
     let mut threads = start_services(rt, alloc, watch, services)?;
@@ -314,11 +402,12 @@ where
     Ok(threads)
 }
 
-// Starts so many loops.
-fn start_loops<R, C>(
+// Starts so many loops for this proxy, by these settings and over these listeners.
+fn start_loops<R, U>(
     rt: R,
     alloc: Global,
-    proxy: &Arc<Proxy<R, C>>,
+    proxy: &Arc<U>,
+    settings: &Arc<Settings>,
     listeners: Vec<TcpListener>,
     count: u64,
 ) -> Result<Vec<Thread>, anyhow::Error>
@@ -326,11 +415,11 @@ where
     R: Log + Net + Threads + Wait + Clock + Copy + Drop + Send + Sync + 'static,
     R::Stream: Send + Sync + 'static,
     R::Listener: Send + Sync + 'static,
-    C: HealthCheck + Drop + Send + Sync + 'static,
+    U: Upstream + Drop + Send + Sync + 'static,
 {
     let mut threads = Vec::new(alloc);
     for _ in 0..count {
-        threads.push(start_loop(rt, alloc, proxy, listeners.as_slice())?)?;
+        threads.push(start_loop(rt, alloc, proxy, settings, listeners.as_slice())?)?;
     }
     Ok(threads)
 }

@@ -1,9 +1,8 @@
 //! What a proxy is doing, as values that the status page shows.
 
+use crate::group::PoolGroup;
 use crate::pool::Pool;
 use crate::proxy::Proxy;
-use log::Log;
-use pingora_load_balancing::health_check::HealthCheck;
 use pingora_load_balancing::{Backend, Refusal};
 use serde::Serialize;
 use std::alloc::Global;
@@ -60,10 +59,10 @@ impl Shown {
 }
 
 /// Returns what the proxy is doing now.
-pub fn shown_of<R: Log + Wait + Copy + Drop, C: HealthCheck + Drop>(
+pub fn shown_of<R: Wait, G: PoolGroup>(
     rt: &R,
     alloc: Global,
-    proxy: &Proxy<R, C>,
+    proxy: &Proxy<G>,
 ) -> Result<Shown, Refusal> {
     let mut pools = Vec::new(alloc);
     for pool in proxy.pools.iter() {
@@ -79,43 +78,27 @@ pub fn shown_of<R: Log + Wait + Copy + Drop, C: HealthCheck + Drop>(
 }
 
 // What a pool is doing.
-fn shown_pool<R: Log + Wait + Copy + Drop, C: HealthCheck + Drop>(
+fn shown_pool<R: Wait, G: PoolGroup>(
     rt: &R,
     alloc: Global,
-    pool: &Pool<R, C>,
+    pool: &Pool<G>,
 ) -> Result<ShownPool, Refusal> {
     Ok(ShownPool {
         name: pool.name.clone()?,
-        generation: pool.group.backend_generation(rt),
+        generation: pool.generation(rt),
         fault: pool.backends.fault(rt)?,
-        slots: shown_slots(rt, alloc, pool)?,
+        slots: pool.slots(rt, alloc)?,
         backends: shown_backends(rt, alloc, pool)?,
     })
 }
 
-// What the slots of a pool serve.
-fn shown_slots<R: Log + Wait + Copy + Drop, C: HealthCheck + Drop>(
-    rt: &R,
-    alloc: Global,
-    pool: &Pool<R, C>,
-) -> Result<Vec<ShownSlot>, Refusal> {
-    let mut slots = Vec::new(alloc);
-    for slot in 0..pool.group.selector_count() {
-        slots.push(ShownSlot {
-            generation: pool.group.selector_generation(rt, slot).unwrap_or(0),
-            failed: pool.group.selector_failed_rebuilds(rt, slot).unwrap_or(0),
-        })?;
-    }
-    Ok(slots)
-}
-
 // The backends of a pool, in order.
-fn shown_backends<R: Log + Wait + Copy + Drop, C: HealthCheck + Drop>(
+fn shown_backends<R: Wait, G: PoolGroup>(
     rt: &R,
     alloc: Global,
-    pool: &Pool<R, C>,
+    pool: &Pool<G>,
 ) -> Result<Vec<ShownBackend>, Refusal> {
-    let members = pool.group.backends().get_backend(rt)?;
+    let members = pool.members(rt)?;
     let mut backends = Vec::new(alloc);
     for backend in members.iter() {
         backends.push(shown_backend(rt, alloc, pool, backend)?)?;
@@ -124,16 +107,16 @@ fn shown_backends<R: Log + Wait + Copy + Drop, C: HealthCheck + Drop>(
 }
 
 // A backend, and what it has carried.
-fn shown_backend<R: Log + Wait + Copy + Drop, C: HealthCheck + Drop>(
+fn shown_backend<R: Wait, G: PoolGroup>(
     rt: &R,
     alloc: Global,
-    pool: &Pool<R, C>,
+    pool: &Pool<G>,
     backend: &Backend,
 ) -> Result<ShownBackend, Refusal> {
     let traffic = pool.traffic_of(rt, backend);
     Ok(ShownBackend {
         address: format!(in alloc; "{backend}")?,
-        ready: pool.group.backends().ready(rt, backend),
+        ready: pool.is_ready(rt, backend),
         live: traffic.live,
         total: traffic.total,
         requests: traffic.requests,

@@ -2,11 +2,11 @@
 //! backends, which a request from this machine sets.
 
 use crate::flag::set_flag;
+use crate::group::PoolGroup;
 use crate::proxy::Proxy;
 use crate::render::{json_text, metrics_text, page_text, text};
 use crate::shown::{Shown, shown_of};
 use log::{Log, warn};
-use pingora_load_balancing::health_check::HealthCheck;
 use std::alloc::Global;
 use std::io::{Read, Write};
 use std::net::TcpStream;
@@ -46,10 +46,10 @@ enum Asked<'h> {
 }
 
 /// Answers one request. One that comes from this machine may set a flag.
-pub fn serve_page<R: Log + Wait + Copy + Drop, C: HealthCheck + Drop>(
+pub fn serve_page<R: Log + Wait, G: PoolGroup>(
     rt: &R,
     alloc: Global,
-    proxy: &Proxy<R, C>,
+    proxy: &Proxy<G>,
     mut stream: TcpStream,
     is_local: bool,
 ) {
@@ -59,10 +59,10 @@ pub fn serve_page<R: Log + Wait + Copy + Drop, C: HealthCheck + Drop>(
 }
 
 // Reads a request and answers it.
-fn answer<R: Log + Wait + Copy + Drop, C: HealthCheck + Drop>(
+fn answer<R: Log + Wait, G: PoolGroup>(
     rt: &R,
     alloc: Global,
-    proxy: &Proxy<R, C>,
+    proxy: &Proxy<G>,
     stream: &mut TcpStream,
     is_local: bool,
 ) -> io::Result<()> {
@@ -134,10 +134,10 @@ fn plain(alloc: Global, status: &'static str, line: &str) -> io::Result<Page> {
 }
 
 // Sets the flag that a target names, and says so.
-fn flag_page<R: Log + Wait + Copy + Drop, C: HealthCheck + Drop>(
+fn flag_page<R: Log + Wait, G: PoolGroup>(
     rt: &R,
     alloc: Global,
-    proxy: &Proxy<R, C>,
+    proxy: &Proxy<G>,
     target: &str,
 ) -> io::Result<Page> {
     match set_flag(rt, alloc, proxy, target) {
@@ -148,10 +148,10 @@ fn flag_page<R: Log + Wait + Copy + Drop, C: HealthCheck + Drop>(
 }
 
 // The answer for a target.
-fn page_of<R: Log + Wait + Copy + Drop, C: HealthCheck + Drop>(
+fn page_of<R: Log + Wait, G: PoolGroup>(
     rt: &R,
     alloc: Global,
-    proxy: &Proxy<R, C>,
+    proxy: &Proxy<G>,
     target: &str,
 ) -> io::Result<Page> {
     match shown_of(rt, alloc, proxy) {

@@ -1,9 +1,12 @@
 //! The threads of a proxy: loops, the checks, and one that reads the files of pools again.
 
 use crate::build::copies;
+use crate::group::PoolGroup;
 use crate::proxy::Proxy;
 use crate::status::serve_page;
 use lb_proxy::event_loop::engine::Engine;
+use lb_proxy::event_loop::settings::Settings;
+use lb_proxy::event_loop::upstream::Upstream;
 use log::{Log, error};
 use pingora_load_balancing::HealthCheckService;
 use pingora_load_balancing::background::{RuntimeClock, ShutdownWatch};
@@ -28,21 +31,22 @@ pub type Thread = JoinHandle<()>;
 /// The check of the pools on one registry.
 pub type Service<C> = HealthCheckService<Rule<NoRule>, C>;
 
-/// Starts a loop over these listeners.
-pub fn start_loop<R, C>(
+/// Starts a loop for this proxy, by these settings and over these listeners.
+pub fn start_loop<R, U>(
     rt: R,
     alloc: Global,
-    proxy: &Arc<Proxy<R, C>>,
+    proxy: &Arc<U>,
+    settings: &Arc<Settings>,
     listeners: &[TcpListener],
 ) -> io::Result<Thread>
 where
     R: Log + Net + Threads + Wait + Clock + Copy + Drop + Send + Sync + 'static,
     R::Stream: Send + Sync + 'static,
     R::Listener: Send + Sync + 'static,
-    C: HealthCheck + Drop + Send + Sync + 'static,
+    U: Upstream + Drop + Send + Sync + 'static,
 {
     let listeners = copies(alloc, listeners)?;
-    let settings = Arc::try_clone(&proxy.settings)?;
+    let settings = Arc::try_clone(settings)?;
     let mut engine = Engine::new(rt, alloc, Arc::try_clone(proxy)?, settings, listeners)?;
     let started = thread::spawn(&rt, move || {
         if let Err(error) = engine.run() {
@@ -70,17 +74,17 @@ where
 }
 
 /// Starts the thread that reads the files of pools again, each second.
-pub fn start_looking<R, C>(
+pub fn start_looking<R, G>(
     rt: R,
     alloc: Global,
-    proxy: Arc<Proxy<R, C>>,
+    proxy: Arc<Proxy<G>>,
     watch: ShutdownWatch,
 ) -> io::Result<Thread>
 where
     R: Log + Files + Threads + Wait + Clock + AllocGlobal + Copy + Drop + Send + Sync + 'static,
     R::File: Send + Sync + 'static,
     R::Dir: Send + Sync + 'static,
-    C: HealthCheck + Drop + Send + Sync + 'static,
+    G: PoolGroup + Drop + Send + Sync + 'static,
 {
     let started = thread::spawn(&rt, move || {
         for _ in rt.forever() {
@@ -97,10 +101,10 @@ where
 }
 
 // Updates the pools whose files say something new.
-fn look<R, C>(rt: &R, alloc: Global, proxy: &Proxy<R, C>)
+fn look<R, G>(rt: &R, alloc: Global, proxy: &Proxy<G>)
 where
     R: Log + Files + Wait + Clock + AllocGlobal + Copy + Drop,
-    C: HealthCheck + Drop,
+    G: PoolGroup,
 {
     for pool in proxy.pools.iter() {
         if pool.backends.look(rt, alloc) {
@@ -110,16 +114,16 @@ where
 }
 
 /// Starts the thread that answers at the status page.
-pub fn start_page<R, C>(
+pub fn start_page<R, G>(
     rt: R,
     alloc: Global,
-    proxy: Arc<Proxy<R, C>>,
+    proxy: Arc<Proxy<G>>,
     watch: ShutdownWatch,
     page: TcpListener,
 ) -> io::Result<Thread>
 where
     R: Log + Threads + Wait + Clock + Copy + Drop + Send + Sync + 'static,
-    C: HealthCheck + Drop + Send + Sync + 'static,
+    G: PoolGroup + Drop + Send + Sync + 'static,
 {
     let started = thread::spawn(&rt, move || {
         for _ in rt.forever() {
