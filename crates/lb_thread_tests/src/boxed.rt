@@ -1,7 +1,7 @@
 //! What threads share, by the types' defaults alone: its discovery and its check are a caller's, each in a box.
 use crate::balancer::fixtures::{is_second, listed, note};
 use crate::service_fixtures::Ticks;
-use lb_crowd::turns::turn;
+use crate::turns::turn;
 use log::Log;
 use pingora_load_balancing::background::shutdown_pair;
 use pingora_load_balancing::discovery::{

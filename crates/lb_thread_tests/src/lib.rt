@@ -3,6 +3,8 @@
 #![tactic(auto)]
 
 #[cfg(test)]
+mod asked_groups;
+#[cfg(test)]
 mod asserted;
 #[cfg(test)]
 mod balancer;
@@ -28,5 +30,7 @@ mod services;
 mod signals;
 #[cfg(test)]
 mod slots;
+#[cfg(test)]
+mod turns;
 #[cfg(test)]
 mod views;

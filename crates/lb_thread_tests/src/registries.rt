@@ -94,7 +94,7 @@ type ByPorts<W> = HealthRegistry<Rule<Numbered<ByPort>>, Down<W>>;
 type PortsView<W> = BackendView<BoxedDiscovery, Rule<Numbered<ByPort>>, Down<W>>;
 
 // Two backends at a port, and one at another.
-const LISTED: [&str; 3] = ["1.0.0.1:80", "1.0.0.1:81", "1.0.0.2:80"];
+const LISTED: &[&str] = &["1.0.0.1:80", "1.0.0.1:81", "1.0.0.2:80"];
 
 // Notes which of them are ready.
 fn note_ready<W: Abort + Wait + Clock + Drop>(
@@ -103,7 +103,7 @@ fn note_ready<W: Abort + Wait + Clock + Drop>(
     view: &PortsView<W>,
     text: &mut String,
 ) {
-    for address in &LISTED {
+    for address in LISTED {
         let backend = Backend::new(alloc, *address).expect(rt, "refused");
         let mark = if view.ready(rt, &backend) {
             " yes"
@@ -148,7 +148,7 @@ fn classes_flip_together(rt: HostRuntime) {
     let registry = HealthRegistry::with_equivalence(alloc, ByPort {}).expect(&rt, "refused");
     let registry = Arc::new(alloc, registry).expect(&rt, "refused");
     registry.set_health_check(&rt, check).expect(&rt, "refused");
-    let found = listed(alloc, &LISTED).expect(&rt, "refused");
+    let found = listed(alloc, LISTED).expect(&rt, "refused");
     let found = DiscoverySource::Static(Static::new(found));
     let shared = Arc::try_clone(&registry).expect(&rt, "refused");
     let view = Backends::new_with_health_registry(&rt, alloc, found, shared);

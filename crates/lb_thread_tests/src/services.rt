@@ -60,7 +60,7 @@ struct Row {
 // In place of a step: the machine's own clock.
 const OF_THE_MACHINE: u128 = 0;
 
-const ROWS: [Row; 10] = [
+const ROWS: &[Row] = &[
     // Without a frequency the one target is checked once, the service is ready, and it is done.
     Row {
         name: "one pass",
@@ -359,7 +359,7 @@ fn played<R: Abort + Log + Threads + Wait + Clock + Copy + Send + Sync + Drop>(
 
 #[test]
 fn rows_of_services(rt: HostRuntime) {
-    for row in &ROWS {
+    for row in ROWS {
         assert_same(&rt, &played(&rt, rt.alloc(), row), &row.wanted, &row.name);
     }
 }

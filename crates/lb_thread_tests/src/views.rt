@@ -278,7 +278,7 @@ struct Row {
     wanted: &'static str,
 }
 
-const ROWS: [Row; 5] = [
+const ROWS: &[Row] = &[
     // Each view judges its own members by the checks of all. As its members go, so do the targets.
     Row {
         name: "shared checks",
@@ -379,7 +379,7 @@ fn noted<W: Abort + Log + Threads + Wait + Sync>(
 // Views over one registry share its cells and its checks, and nothing else.
 #[test]
 fn views_of_one_registry(rt: HostRuntime) {
-    for row in &ROWS {
+    for row in ROWS {
         let pair = Pair::new(&rt, rt.alloc(), row.second);
         let text = noted(&rt, rt.alloc(), &pair, row.steps);
         assert_same(&rt, &text.as_str(), &row.wanted, &row.name);

@@ -87,11 +87,11 @@ pub struct InTurn<R> {
     turn: AtomicU64,
 }
 
-const FIRST: [&str; 3] = ["1.0.0.1:80", "1.0.0.2:80", "1.0.0.3:80"];
+const FIRST: &[&str] = &["1.0.0.1:80", "1.0.0.2:80", "1.0.0.3:80"];
 
-const MORE: [&str; 4] = ["1.0.0.1:80", "1.0.0.2:80", "1.0.0.3:80", "1.0.0.4:80"];
+const MORE: &[&str] = &["1.0.0.1:80", "1.0.0.2:80", "1.0.0.3:80", "1.0.0.4:80"];
 
-const SECOND: [&str; 3] = ["2.0.0.1:80", "2.0.0.2:80", "2.0.0.3:80"];
+const SECOND: &[&str] = &["2.0.0.1:80", "2.0.0.2:80", "2.0.0.3:80"];
 
 /// Returns backends of weight 1 at these addresses.
 pub fn listed(alloc: Global, texts: &[&str]) -> Result<BTreeSet<Backend>, Refusal> {
@@ -139,10 +139,10 @@ impl<R: Clock> ServiceDiscovery for InTurn<R> {
         let set = match answers {
             FAULT => return Err(Refusal::Discovery),
             HEAVY => heavy(alloc)?,
-            GROWN => listed(alloc, &MORE)?,
-            DISABLES | ENABLES => listed(alloc, &FIRST)?,
-            _ if turn % 2 == 0 => listed(alloc, &FIRST)?,
-            _ => listed(alloc, &SECOND)?,
+            GROWN => listed(alloc, MORE)?,
+            DISABLES | ENABLES => listed(alloc, FIRST)?,
+            _ if turn % 2 == 0 => listed(alloc, FIRST)?,
+            _ => listed(alloc, SECOND)?,
         };
         Ok((set, setting(alloc, answers)?))
     }

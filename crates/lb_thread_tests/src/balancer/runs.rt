@@ -225,7 +225,7 @@ fn play<
 }
 
 // Each case, what the other thread saw, and what was left; how often one updates that goes on until it hears the end can't be told.
-const CASES: [(Case, Told, Option<Left>); 8] = [
+const CASES: &[(Case, Told, Option<Left>)] = &[
     (Case::Ended, (true, 0, false), Some((0, false, 0, 0, false))),
     (
         Case::Refused,
@@ -256,7 +256,7 @@ fn rows<
     R: Abort + Threads + Wait + Clock + Copy + Send + Sync + Drop,
     W: Log + Threads + Wait + Sync,
 >(rt: &R, logged: &W, bench: &mut Bench<RoundRobin, R>) {
-    for (case, told, left) in &CASES {
+    for (case, told, left) in CASES {
         let seen = play(rt, logged, bench, *case);
         assert_same(rt, &seen, &(*told, left.unwrap_or(seen.1)), case);
     }
