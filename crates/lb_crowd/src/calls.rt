@@ -107,8 +107,8 @@ pub trait AskedGroup: HasWorkers {
         requires { F.IsAlwaysCallable accept.now };
 }
 
-/// A group that threads share, with passes over it.
-pub trait GroupByPasses: AskedGroup {
+/// A group, or its handle, with passes over it.
+pub trait ByPasses {
     // The board that its passes read.
     ghost board: { Self → BoardId };
 
@@ -127,7 +127,10 @@ pub trait GroupByPasses: AskedGroup {
         requires other { other.old.board ≡ board self.now }
         ensures pass { pass.new.board ≡ board self.now }
         ensures other { other.new.board ≡ board self.now };
+}
 
+/// A group that threads share, with passes over it.
+pub trait GroupByPasses: AskedGroup + ByPasses {
     /// Updates the group to what is found, and has the pass see the newest generation, which is returned.
     ///
     /// # Errors
@@ -141,8 +144,8 @@ pub trait GroupByPasses: AskedGroup {
         clock: &mut K,
         pass: &mut GroupPass,
     ) -> Result<u64, Refusal>
-        requires { pass.old.board ≡ board self.now }
-        ensures { pass.new.board ≡ board self.now };
+        requires { pass.old.board ≡ Self.board self.now }
+        ensures { pass.new.board ≡ Self.board self.now };
 }
 
 /// A group that threads share, with readers that enter its slots.
@@ -193,7 +196,18 @@ pub struct HandleReadings {
     pub is_timed: bool,
 }
 
-/// A call of a group's handle, or of its borrowed backends.
+/// A call of the backends that a handle lends.
+#[derive(Clone, Copy)]
+pub enum BackendsCall<'c> {
+    SetEnable(&'c Backend, bool),
+    Ready(&'c Backend),
+    /// The newest membership.
+    Members,
+    /// The newest generation.
+    Newest,
+}
+
+/// A call of a group's handle.
 #[derive(Clone, Copy)]
 pub enum HandleCall<'c> {
     Update,
@@ -201,14 +215,7 @@ pub enum HandleCall<'c> {
     /// A selection by a new reader of the handle.
     SelectByReader(usize, &'c [u8]),
     SetLoad(&'c Backend, u64),
-    /// Of the backends: enables or disables one of them.
-    SetEnable(&'c Backend, bool),
-    /// Of the backends: whether one is ready.
-    Ready(&'c Backend),
-    /// Of the backends: the newest membership.
-    Members,
-    /// Of the backends: the newest generation.
-    Shown,
+    OfBackends(BackendsCall<'c>),
     Newest,
     Served(usize),
     /// Whether each slot serves that generation or a later one.
@@ -243,26 +250,7 @@ pub trait AskedHandle {
 }
 
 /// The handle of a group, with passes.
-pub trait HandleByPasses: AskedHandle {
-    // The board that its passes read.
-    ghost board: { Self → BoardId };
-
-    /// Returns a new pass.
-    fn pass(&self) -> GroupPass
-        ensures { result.board ≡ board self.now };
-
-    /// Returns the newest generation, and what a slot serves, which is read before it.
-    fn reads(&self, slot: usize, pass: &mut GroupPass) -> (u64, Option<u64>)
-        requires { pass.old.board ≡ board self.now }
-        ensures { pass.new.board ≡ board self.now };
-
-    /// Joins what two passes have seen.
-    fn meet<W: Wait>(&self, rt: &W, pass: &mut GroupPass, other: &mut GroupPass)
-        requires pass { pass.old.board ≡ board self.now }
-        requires other { other.old.board ≡ board self.now }
-        ensures pass { pass.new.board ≡ board self.now }
-        ensures other { other.new.board ≡ board self.now };
-
+pub trait HandleByPasses: AskedHandle + ByPasses {
     /// Updates the group, and has the pass see the newest generation, which is returned.
     ///
     /// # Errors
@@ -275,13 +263,13 @@ pub trait HandleByPasses: AskedHandle {
         clock: &mut K,
         pass: &mut GroupPass,
     ) -> Result<u64, Refusal>
-        requires { pass.old.board ≡ board self.now }
-        ensures { pass.new.board ≡ board self.now };
+        requires { pass.old.board ≡ Self.board self.now }
+        ensures { pass.new.board ≡ Self.board self.now };
 
     /// Returns whether each slot serves this generation or a later one, as a pass reads it.
     fn selectors_ready_for_as(&self, generation: u64, pass: &mut GroupPass) -> bool
-        requires { pass.old.board ≡ board self.now }
-        ensures { pass.new.board ≡ board self.now };
+        requires { pass.old.board ≡ Self.board self.now }
+        ensures { pass.new.board ≡ Self.board self.now };
 
     /// Enters slot 0 as a reader, selects by it and leaves. Returns the generation that it entered, and its first candidate.
     ///
@@ -294,5 +282,5 @@ pub trait HandleByPasses: AskedHandle {
         alloc: Global,
         pass: &mut GroupPass,
     ) -> Result<(u64, Option<Backend>), Refusal>
-        requires { pass.old.board ≡ board self.now };
+        requires { pass.old.board ≡ Self.board self.now };
 }

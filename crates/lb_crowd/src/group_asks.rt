@@ -10,6 +10,20 @@ use std::alloc::Global;
 use std::collections::BTreeSet;
 use std::sync::{Arc, Wait};
 
+// Makes a call that answers a generation.
+fn generation<G: AskedGroup, W: Wait, K: MomentSource>(
+    rt: &W,
+    alloc: Global,
+    group: &G,
+    call: Call<'_>,
+    clock: &mut K,
+) -> Result<u64, Refusal> {
+    match group.ask(rt, alloc, call, clock) {
+        Answer::Generation(answer) => answer,
+        _ => Err(Refusal::NoSuch),
+    }
+}
+
 /// Updates a group to what is found. Returns the generation.
 ///
 /// # Errors
@@ -22,10 +36,7 @@ pub fn update<G: AskedGroup, W: Wait, K: MomentSource>(
     found: &DiscoverySource<Static>,
     clock: &mut K,
 ) -> Result<u64, Refusal> {
-    match group.ask(rt, alloc, Call::Update(found), clock) {
-        Answer::Generation(answer) => answer,
-        _ => Err(Refusal::NoSuch),
-    }
+    generation(rt, alloc, group, Call::Update(found), clock)
 }
 
 /// Updates a group by a port. Returns the generation.
@@ -40,10 +51,7 @@ pub fn schedule<G: AskedGroup, W: Wait, K: MomentSource>(
     found: &DiscoverySource<Static>,
     clock: &mut K,
 ) -> Result<u64, Refusal> {
-    match group.ask(rt, alloc, Call::Schedule(found), clock) {
-        Answer::Generation(answer) => answer,
-        _ => Err(Refusal::NoSuch),
-    }
+    generation(rt, alloc, group, Call::Schedule(found), clock)
 }
 
 /// Takes a turn for a slot.

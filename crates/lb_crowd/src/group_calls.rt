@@ -2,7 +2,7 @@
 ghost use Rattle.std.specs.Prelude.{◌≡◌};
 
 use crate::calls::{
-    Answer, AskedGroup, Call, GroupByPasses, GroupWithReaders, HasWorkers, Readings,
+    Answer, AskedGroup, ByPasses, Call, GroupByPasses, GroupWithReaders, HasWorkers, Readings,
 };
 use crate::turns::turn_by;
 use lb_balancer_core::port::WorkPort;
@@ -27,7 +27,7 @@ use std::sync::Wait;
 use std::sync::atomic::AtomicU64;
 use std::sync::atomic::Ordering::SeqCst;
 
-impl<S: BackendSelection, R: KeyRule + Drop, C: HealthCheck + Drop> GroupByPasses
+impl<S: BackendSelection, R: KeyRule + Drop, C: HealthCheck + Drop> ByPasses
     for SharedGroup<S, R, C> {
     ghost board = { λ g. g.board };
 
@@ -44,7 +44,10 @@ impl<S: BackendSelection, R: KeyRule + Drop, C: HealthCheck + Drop> GroupByPasse
     fn meet<W: Wait>(&self, rt: &W, pass: &mut GroupPass, other: &mut GroupPass) {
         SharedGroup::meet(self, rt, pass, other);
     }
+}
 
+impl<S: BackendSelection, R: KeyRule + Drop, C: HealthCheck + Drop> GroupByPasses
+    for SharedGroup<S, R, C> {
     fn update_as<W: Wait, K: MomentSource>(
         &self,
         rt: &W,

@@ -1,5 +1,5 @@
 //! The calls of a group's handle that `AskedHandle::ask` makes, each with its own answer.
-use crate::calls::{AskedHandle, HandleAnswer, HandleCall, HandleReadings};
+use crate::calls::{AskedHandle, BackendsCall, HandleAnswer, HandleCall, HandleReadings};
 use crate::turns::Still;
 use lb_select_base::backend::Backend;
 use lb_select_base::moments::MomentSource;
@@ -104,7 +104,8 @@ pub fn set_enable<H: AskedHandle, W: Wait>(
     backend: &Backend,
     enabled: bool,
 ) {
-    let _ = done(rt, alloc, group, HandleCall::SetEnable(backend, enabled));
+    let call = BackendsCall::SetEnable(backend, enabled);
+    let _ = done(rt, alloc, group, HandleCall::OfBackends(call));
 }
 
 /// Cancels the group.
@@ -127,7 +128,8 @@ fn is_ready<H: AskedHandle, W: Wait>(
 
 /// Returns whether a backend is ready in the newest membership, as the handle's backends show it.
 pub fn ready<H: AskedHandle, W: Wait>(rt: &W, alloc: Global, group: &H, backend: &Backend) -> bool {
-    is_ready(rt, alloc, group, HandleCall::Ready(backend))
+    let call = BackendsCall::Ready(backend);
+    is_ready(rt, alloc, group, HandleCall::OfBackends(call))
 }
 
 /// Returns whether each slot serves this generation or a later one.
@@ -150,26 +152,39 @@ pub fn members<H: AskedHandle, W: Wait>(
     alloc: Global,
     group: &H,
 ) -> Result<Arc<BTreeSet<Backend>>, Refusal> {
-    match group.ask(rt, alloc, HandleCall::Members, &mut Still {}) {
+    let call = HandleCall::OfBackends(BackendsCall::Members);
+    match group.ask(rt, alloc, call, &mut Still {}) {
         HandleAnswer::Members(answer) => answer,
         _ => Err(Refusal::NoSuch),
     }
 }
 
-/// Returns the newest generation, as the handle's backends show it.
-pub fn shown<H: AskedHandle, W: Wait>(rt: &W, alloc: Global, group: &H) -> Option<u64> {
-    match group.ask(rt, alloc, HandleCall::Shown, &mut Still {}) {
+// Makes a call that answers the newest generation.
+fn generation<H: AskedHandle, W: Wait>(
+    rt: &W,
+    alloc: Global,
+    group: &H,
+    call: HandleCall<'_>,
+) -> Option<u64> {
+    match group.ask(rt, alloc, call, &mut Still {}) {
         HandleAnswer::Newest(answer) => Some(answer),
         _ => None,
     }
 }
 
+/// Returns the newest generation, as the handle's backends show it.
+pub fn shown<H: AskedHandle, W: Wait>(rt: &W, alloc: Global, group: &H) -> Option<u64> {
+    generation(
+        rt,
+        alloc,
+        group,
+        HandleCall::OfBackends(BackendsCall::Newest),
+    )
+}
+
 /// Returns the newest generation.
 pub fn newest<H: AskedHandle, W: Wait>(rt: &W, alloc: Global, group: &H) -> Option<u64> {
-    match group.ask(rt, alloc, HandleCall::Newest, &mut Still {}) {
-        HandleAnswer::Newest(answer) => Some(answer),
-        _ => None,
-    }
+    generation(rt, alloc, group, HandleCall::Newest)
 }
 
 /// Returns the generation that a slot serves.

@@ -2,7 +2,9 @@
 ghost use Rattle.std.specs.Prelude.{◌≡◌};
 ghost use Rattle.std.specs.Arc.{arc_value};
 
-use crate::calls::{AskedHandle, HandleAnswer, HandleByPasses, HandleCall, HandleReadings};
+use crate::calls::{
+    AskedHandle, BackendsCall, ByPasses, HandleAnswer, HandleByPasses, HandleCall, HandleReadings,
+};
 use lb_background::lending::{LendsToThreads, SharedBackends};
 use lb_balancer_group::group::LoadBalancerGroup;
 use lb_health_core::health_check::HealthCheck;
@@ -39,16 +41,16 @@ fn readings_of<
 fn answer_of<B: LendsToThreads, W: Wait>(
     rt: &W,
     backends: &SharedBackends<'_, B>,
-    call: HandleCall<'_>,
+    call: BackendsCall<'_>,
 ) -> HandleAnswer {
     match call {
-        HandleCall::SetEnable(backend, enabled) => {
+        BackendsCall::SetEnable(backend, enabled) => {
             backends.set_enable(rt, backend, enabled);
             HandleAnswer::Done(Ok(()))
         }
-        HandleCall::Ready(backend) => HandleAnswer::Ready(backends.ready(rt, backend)),
-        HandleCall::Members => HandleAnswer::Members(backends.get_backend(rt)),
-        _ => HandleAnswer::Newest(backends.generation(rt)),
+        BackendsCall::Ready(backend) => HandleAnswer::Ready(backends.ready(rt, backend)),
+        BackendsCall::Members => HandleAnswer::Members(backends.get_backend(rt)),
+        BackendsCall::Newest => HandleAnswer::Newest(backends.generation(rt)),
     }
 }
 
@@ -76,6 +78,7 @@ impl<
             HandleCall::SetLoad(backend, load) => {
                 HandleAnswer::Done(self.set_load(rt, alloc, backend, load))
             }
+            HandleCall::OfBackends(call) => answer_of(rt, &self.backends(), call),
             HandleCall::Newest => HandleAnswer::Newest(self.backend_generation(rt)),
             HandleCall::Served(slot) => HandleAnswer::Served(self.selector_generation(rt, slot)),
             HandleCall::AreReadyFor(generation) => {
@@ -86,7 +89,6 @@ impl<
                 self.cancel(rt);
                 HandleAnswer::Done(Ok(()))
             }
-            _ => answer_of(rt, &self.backends(), call),
         }
     }
 }
@@ -96,7 +98,7 @@ impl<
     D: ServiceDiscovery + Drop,
     R: KeyRule + Drop,
     C: HealthCheck + Drop,
-> HandleByPasses for LoadBalancerGroup<S, D, R, C> {
+> ByPasses for LoadBalancerGroup<S, D, R, C> {
     ghost board = { λ g. (arc_value g.shared).board };
 
     fn pass(&self) -> GroupPass {
@@ -112,7 +114,14 @@ impl<
     fn meet<W: Wait>(&self, rt: &W, pass: &mut GroupPass, other: &mut GroupPass) {
         LoadBalancerGroup::meet(self, rt, pass, other);
     }
+}
 
+impl<
+    S: BackendSelection,
+    D: ServiceDiscovery + Drop,
+    R: KeyRule + Drop,
+    C: HealthCheck + Drop,
+> HandleByPasses for LoadBalancerGroup<S, D, R, C> {
     fn update_as<W: Wait, K: MomentSource>(
         &self,
         rt: &W,

@@ -4,15 +4,16 @@
 use super::TURNS;
 use crate::asserted::assert_same;
 use crate::noted::Noted;
+use lb_crowd::calls::AskedHandle;
 use lb_crowd::counted::{Counted, Counting, Counts};
+use lb_crowd::handle_asks;
 use log::{Level, Log, Logged};
 use pingora_load_balancing::background::{
     ReadyWatch, RuntimeClock, ServiceReadyNotifier, ShutdownSignal, ShutdownWatch, ready_pair,
     shutdown_pair,
 };
 use pingora_load_balancing::discovery::{Discovered, DiscoverySource, ServiceDiscovery, Settings};
-use pingora_load_balancing::health_check::{CheckError, HealthCheck, KeyRule, NoRule, Rule};
-use pingora_load_balancing::selection::BackendSelection;
+use pingora_load_balancing::health_check::{CheckError, HealthCheck, NoRule, Rule};
 use pingora_load_balancing::{
     Backend, Backends, GateRefusal, LoadBalancerGroup, Refusal, SelectorRebuildGate,
 };
@@ -134,7 +135,7 @@ impl<W: Abort + Wait + Clock + Copy + Drop> Bench<W> {
         if wanted.is_told {
             self.group.update_frequency = Some(1_000_000);
             self.counts.hold(false);
-            assert!(rt; comes_to_serve(rt, &self.group));
+            assert!(rt; comes_to_serve(rt, alloc, &self.group));
             assert!(rt; self.refuses_a_gate(rt, alloc));
         }
         ready_pair(alloc).expect(rt, "refused")
@@ -150,7 +151,7 @@ impl<W: Abort + Wait + Clock + Copy + Drop> Bench<W> {
 
     // What the last run left. A run that updates again and again discovers more often than it has to.
     fn left(&self, rt: &W, alloc: Global, ready: &ReadyWatch, wanted: Wanted) -> Left {
-        let backend = Backend::new(alloc, "1.0.0.1:80").expect(rt, "refused");
+        let (generation, served, is_ready) = read_of(rt, alloc, &self.group);
         let updates = self.calls.updates.load(SeqCst);
         Left {
             updates: if wanted.is_told {
@@ -159,9 +160,9 @@ impl<W: Abort + Wait + Clock + Copy + Drop> Bench<W> {
                 updates
             },
             checks: self.calls.checks.load(SeqCst),
-            generation: self.group.backend_generation(rt),
-            served: self.group.selector_generation(rt, 0),
-            is_ready: self.group.backends().ready(rt, &backend),
+            generation,
+            served,
+            is_ready,
             is_told: ready.is_ready(),
         }
     }
@@ -173,23 +174,31 @@ impl<W: Abort + Wait + Clock + Copy + Drop> Bench<W> {
 struct Left {
     updates: u64,
     checks: u64,
-    generation: u64,
+    generation: Option<u64>,
     served: Option<u64>,
     is_ready: bool,
     is_told: bool,
 }
 
+// The generation of a group, that of its first slot, and whether its backend is ready.
+fn read_of<H: AskedHandle, W: Abort + Wait>(
+    rt: &W,
+    alloc: Global,
+    group: &H,
+) -> (Option<u64>, Option<u64>, bool) {
+    let backend = Backend::new(alloc, "1.0.0.1:80").expect(rt, "refused");
+    (
+        handle_asks::newest(rt, alloc, group),
+        handle_asks::served(rt, alloc, group, 0),
+        handle_asks::ready(rt, alloc, group, &backend),
+    )
+}
+
 // Whether both slots of a group come to serve its first update within a thousand turns of ten milliseconds.
-fn comes_to_serve<
-    S: BackendSelection,
-    D: ServiceDiscovery + Drop,
-    R: KeyRule + Drop,
-    C: HealthCheck + Drop,
-    W: Wait + Clock,
->(rt: &W, group: &LoadBalancerGroup<S, D, R, C>) -> bool {
+fn comes_to_serve<H: AskedHandle, W: Wait + Clock>(rt: &W, alloc: Global, group: &H) -> bool {
     for _ in 0..TURNS {
-        let served = group.selector_generation(rt, 0);
-        if served == Some(1) && group.selector_generation(rt, 1) == served {
+        let served = handle_asks::served(rt, alloc, group, 0);
+        if served == Some(1) && handle_asks::served(rt, alloc, group, 1) == served {
             return true;
         }
         thread::sleep(rt, Duration::from_millis(10));
@@ -247,7 +256,7 @@ impl Wanted {
         Left {
             updates: self.updates,
             checks: self.checks,
-            generation,
+            generation: Some(generation),
             served: Some(if self.is_told { 2 } else { 0 }),
             is_ready: self.updates == 1,
             is_told: self.is_told,
