@@ -1,13 +1,11 @@
 //! Calls of shared types in which memory may be refused: `refused`. A call that was refused for it has to leave all that can be read as it
 //! was, and is made again. Each call has to answer what its row says, whether it was made again or not.
 use crate::refused_passes::passes;
-use crate::refused_subjects::{Alone, Balancer, Calls, Group, Made, View};
+use crate::refused_subjects::{Alone, Balancer, Calls, Group, Made, View, Way};
 use anyhow::Error;
 use lb_balancer_core::timings::UpdateTimings;
 use lb_health_view::discovery::{Discovered, ServiceDiscovery};
 use lb_health_view::view::Settings;
-use lb_select::ketama::KetamaHashing;
-use lb_select::selection::{FNVHash, RoundRobin};
 use lb_select_base::backend::Backend;
 use lb_select_base::moments::MomentSource;
 use lb_select_base::refusal::Refusal;
@@ -208,6 +206,56 @@ const GROUP: &[Row] = &[
     (Call::Turn, 3),
 ];
 
+// A subject of a type, how it is made, and its calls.
+struct Case {
+    name: &'static str,
+    way: Way,
+    rows: &'static [Row],
+}
+
+const REGISTRIES: &[Case] = &[
+    Case {
+        name: "the calls of a shared registry",
+        way: Way::Plain,
+        rows: REGISTRY,
+    },
+    Case {
+        name: "those of a registry by address",
+        way: Way::ByAddress,
+        rows: REGISTRY,
+    },
+];
+
+const VIEWS: &[Case] = &[Case {
+    name: "the calls of a shared view",
+    way: Way::Plain,
+    rows: VIEW,
+}];
+
+const BALANCERS: &[Case] = &[
+    Case {
+        name: "the calls of a shared balancer",
+        way: Way::Plain,
+        rows: BALANCER,
+    },
+    Case {
+        name: "those of a configured one",
+        way: Way::Configured,
+        rows: BALANCER,
+    },
+    Case {
+        name: "those of one made of texts",
+        way: Way::OfTexts,
+        rows: TEXTS,
+    },
+];
+
+const GROUPS: &[Case] = &[Case {
+    name: "the calls of a shared group",
+    way: Way::Plain,
+    rows: GROUP,
+}];
+
 /// What came of a subject's calls: whether all agreed, and which one was made again, by its number from 1; 0 for the one that makes the
 /// subject.
 #[derive(Clone, Copy)]
@@ -284,17 +332,34 @@ impl Course {
 }
 
 // Makes the calls of a subject, and reports what came of them.
-fn agree<W: Net + Wait + Print + Copy + Drop, T: Made + Drop>(
+fn agrees<W: Net + Wait + Print + Copy + Drop, T: Made + Drop>(
     rt: &W,
     alloc: Global,
-    name: &str,
-    rows: &[Row],
+    case: &Case,
 ) -> io::Result<bool>
 where
     Calls<W, T>: Subject,
 {
-    let (made, course): (Option<Calls<W, T>>, Course) = Calls::new(*rt, alloc);
-    course.play(alloc, made.as_ref(), rows).report(rt, name)
+    let (made, course): (Option<Calls<W, T>>, Course) = Calls::new(*rt, alloc, case.way);
+    course
+        .play(alloc, made.as_ref(), case.rows)
+        .report(rt, case.name)
+}
+
+// Makes the calls of each of these cases, with a subject of type `T`. Returns whether all agree.
+fn agree<W: Net + Wait + Print + Copy + Drop, T: Made + Drop>(
+    rt: &W,
+    alloc: Global,
+    cases: &[Case],
+) -> io::Result<bool>
+where
+    Calls<W, T>: Subject,
+{
+    let mut all = true;
+    for case in cases {
+        all &= agrees::<W, T>(rt, alloc, case)?;
+    }
+    Ok(all)
 }
 
 // Makes passes over a registry, from the beginning where memory was refused for the registry, and reports what came of them.
@@ -320,13 +385,10 @@ fn all_agree<W: Log + Net + Threads + Wait + Print + Copy + Sync + Drop>(
     rt: &W,
     alloc: Global,
 ) -> io::Result<bool> {
-    let mut all = agree::<W, Alone<false>>(rt, alloc, "the calls of a shared registry", REGISTRY)?;
-    all &= agree::<W, Alone<true>>(rt, alloc, "those of a registry by address", REGISTRY)?;
-    all &= agree::<W, View>(rt, alloc, "the calls of a shared view", VIEW)?;
-    all &= agree::<W, Balancer<FNVHash>>(rt, alloc, "the calls of a shared balancer", BALANCER)?;
-    all &= agree::<W, Balancer<KetamaHashing>>(rt, alloc, "those of a configured one", BALANCER)?;
-    all &= agree::<W, Balancer<RoundRobin>>(rt, alloc, "those of one made of texts", TEXTS)?;
-    all &= agree::<W, Group>(rt, alloc, "the calls of a shared group", GROUP)?;
+    let mut all = agree::<W, Alone>(rt, alloc, REGISTRIES)?;
+    all &= agree::<W, View>(rt, alloc, VIEWS)?;
+    all &= agree::<W, Balancer>(rt, alloc, BALANCERS)?;
+    all &= agree::<W, Group>(rt, alloc, GROUPS)?;
     all &= passes_agree(rt, alloc)?;
     Ok(all)
 }

@@ -9,8 +9,7 @@ use lb_crowd::turns::turn_by;
 use lb_health_core::health_check::HealthCheck;
 use lb_health_core::keys::{KeyRule, Rule};
 use lb_health_view::discovery::DiscoverySource;
-use lb_select::ketama::{KetamaConfig, KetamaHashing};
-use lb_select::selection::{FNVHash, RoundRobin};
+use lb_script::kinds::{Chosen, Kind};
 use lb_select_base::backend::Backend;
 use lb_select_base::refusal::Refusal;
 use lb_select_base::walk::BackendSelection;
@@ -38,17 +37,29 @@ type Found = Backends<Lists, Rule<NoRule>, NoCheck>;
 /// A view over a shared registry.
 pub type View = BackendView<Lists, Rule<NoRule>, NoCheck>;
 
-/// A balancer that threads may share: by `FNVHash` it has the default configuration, by `KetamaHashing` a given one, and by `RoundRobin` it
-/// is made of texts, over a registry of its own.
-pub type Balancer<S> = LoadBalancer<S, Lists, Rule<NoRule>, NoCheck>;
+/// A balancer that threads may share.
+pub type Balancer = LoadBalancer<Chosen, Lists, Rule<NoRule>, NoCheck>;
 
 /// A group of one slot that threads may share, without workers.
-pub type Group = LoadBalancerGroup<FNVHash, Lists, Rule<NoRule>, NoCheck>;
+pub type Group = LoadBalancerGroup<Chosen, Lists, Rule<NoRule>, NoCheck>;
 
-/// A registry alone, by identity or by address.
+/// A registry alone.
 #[derive(Drop)]
-pub struct Alone<const BY_ADDRESS: bool> {
+pub struct Alone {
     registry: Registry,
+}
+
+/// How a subject is made.
+#[derive(Clone, Copy)]
+pub enum Way {
+    /// A registry by identity, and anything else by its type's defaults.
+    Plain,
+    /// A registry by address.
+    ByAddress,
+    /// A balancer with a configuration, that of a ring.
+    Configured,
+    /// A balancer of texts, over a registry of its own.
+    OfTexts,
 }
 
 /// A registry, and what says which list a discovery over it finds.
@@ -105,52 +116,52 @@ fn target_count<W: Wait>(rt: &W, alloc: Global, registry: &Registry) -> Option<u
 
 /// What can be made over a site.
 pub trait Made: Sized {
-    /// Makes it.
-    fn make<W: Net + Wait>(site: &Site<W>) -> Result<Self, Refusal>;
+    /// Makes it in this way, or plainly where it has no such way.
+    fn make<W: Net + Wait>(site: &Site<W>, way: Way) -> Result<Self, Refusal>;
 }
 
-impl<const BY_ADDRESS: bool> Made for Alone<BY_ADDRESS> {
-    fn make<W: Net + Wait>(site: &Site<W>) -> Result<Alone<BY_ADDRESS>, Refusal> {
-        let registry = if BY_ADDRESS {
-            HealthRegistry::by_address(site.alloc)?
-        } else {
-            HealthRegistry::new(site.alloc)?
+impl Made for Alone {
+    fn make<W: Net + Wait>(site: &Site<W>, way: Way) -> Result<Alone, Refusal> {
+        let registry = match way {
+            Way::ByAddress => HealthRegistry::by_address(site.alloc)?,
+            _ => HealthRegistry::new(site.alloc)?,
         };
         Ok(Alone { registry })
     }
 }
 
 impl Made for View {
-    fn make<W: Net + Wait>(site: &Site<W>) -> Result<View, Refusal> {
+    fn make<W: Net + Wait>(site: &Site<W>, _way: Way) -> Result<View, Refusal> {
         site.found()
     }
 }
 
-impl Made for Balancer<FNVHash> {
-    fn make<W: Net + Wait>(site: &Site<W>) -> Result<Balancer<FNVHash>, Refusal> {
-        LoadBalancer::from_backends(&site.rt, site.alloc, site.found()?)
-    }
+// A balancer of the texts of the first list's addresses.
+fn balancer_of_texts<W: Net + Wait>(rt: &W, alloc: Global) -> Result<Balancer, Refusal> {
+    let texts = FIRST.iter().map(|(address, _)| *address);
+    LoadBalancer::try_from_iter(rt, alloc, texts, &mut Ticks { next: 10 })
 }
 
-impl Made for Balancer<KetamaHashing> {
-    fn make<W: Net + Wait>(site: &Site<W>) -> Result<Balancer<KetamaHashing>, Refusal> {
-        let config = KetamaConfig {
-            point_multiple: None,
-        };
-        LoadBalancer::from_backends_with_config(&site.rt, site.alloc, site.found()?, Some(config))
-    }
-}
-
-impl Made for Balancer<RoundRobin> {
-    fn make<W: Net + Wait>(site: &Site<W>) -> Result<Balancer<RoundRobin>, Refusal> {
+impl Made for Balancer {
+    fn make<W: Net + Wait>(site: &Site<W>, way: Way) -> Result<Balancer, Refusal> {
         let (rt, alloc) = (&site.rt, site.alloc);
-        let texts = FIRST.iter().map(|(address, _)| *address);
-        LoadBalancer::try_from_iter(rt, alloc, texts, &mut Ticks { next: 10 })
+        match way {
+            Way::OfTexts => balancer_of_texts(rt, alloc),
+            Way::Configured => {
+                LoadBalancer::from_backends_with_config(
+                    rt,
+                    alloc,
+                    site.found()?,
+                    Some(Kind::Ketama),
+                )
+            }
+            _ => LoadBalancer::from_backends(rt, alloc, site.found()?),
+        }
     }
 }
 
 impl Made for Group {
-    fn make<W: Net + Wait>(site: &Site<W>) -> Result<Group, Refusal> {
+    fn make<W: Net + Wait>(site: &Site<W>, _way: Way) -> Result<Group, Refusal> {
         let (rt, alloc) = (&site.rt, site.alloc);
         let mut configs = Vec::new(alloc);
         configs.push(None)?;
@@ -177,7 +188,7 @@ pub struct Calls<W, T> {
 
 impl<W: Net + Wait + Copy + Drop, T: Made + Drop> Calls<W, T> {
     /// Makes the subject, again where memory was refused for it, and returns what came of that.
-    pub fn new(rt: W, alloc: Global) -> (Option<Calls<W, T>>, Course) {
+    pub fn new(rt: W, alloc: Global, way: Way) -> (Option<Calls<W, T>>, Course) {
         let made = match Site::new(rt, alloc) {
             Ok(site) => Ok(site),
             Err(_) => Site::new(rt, alloc),
@@ -185,7 +196,7 @@ impl<W: Net + Wait + Copy + Drop, T: Made + Drop> Calls<W, T> {
         let Ok(site) = made else {
             return (None, Course::new(false));
         };
-        let (made, course) = made_in(&site);
+        let (made, course) = made_in(&site, way);
         match made {
             Some(subject) => (Some(Calls { site, subject }), course),
             None => (None, course),
@@ -194,17 +205,17 @@ impl<W: Net + Wait + Copy + Drop, T: Made + Drop> Calls<W, T> {
 }
 
 // Makes a subject, again where that was refused: then the registry has no targets.
-fn made_in<W: Net + Wait, T: Made>(site: &Site<W>) -> (Option<T>, Course) {
-    match T::make(site) {
+fn made_in<W: Net + Wait, T: Made>(site: &Site<W>, way: Way) -> (Option<T>, Course) {
+    match T::make(site, way) {
         Ok(subject) => (Some(subject), Course::new(true)),
         Err(_) => {
             let course = Course::made_again(site.targets() == Some(0));
-            (T::make(site).ok(), course)
+            (T::make(site, way).ok(), course)
         }
     }
 }
 
-impl<W: Wait, const BY_ADDRESS: bool> Subject for Calls<W, Alone<BY_ADDRESS>> {
+impl<W: Wait> Subject for Calls<W, Alone> {
     fn seen(&self) -> Option<Seen> {
         let (rt, alloc, registry) = (&self.site.rt, self.site.alloc, &self.subject.registry);
         let mut ready: u64 = 0;
@@ -282,7 +293,7 @@ impl<W: Wait> Subject for Calls<W, View> {
     }
 }
 
-impl<W: Wait, S: BackendSelection> Subject for Calls<W, Balancer<S>> {
+impl<W: Wait> Subject for Calls<W, Balancer> {
     fn seen(&self) -> Option<Seen> {
         let (rt, alloc) = (&self.site.rt, self.site.alloc);
         let selected = match self.subject.select(rt, alloc, b"k", 1) {

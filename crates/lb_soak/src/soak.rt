@@ -66,8 +66,8 @@ fn all_start<W: Log + Threads + Wait + Clock + Copy + Send + Sync + Drop + 'stat
     alloc: Global,
     groups: &Groups<W>,
 ) -> Result<(), Fault> {
-    let mut are_started = starts(rt, alloc, &*groups.random);
-    for group in &groups.chosen {
+    let mut are_started = true;
+    for group in &groups.handles {
         are_started &= starts(rt, alloc, &**group);
     }
     if are_started {
@@ -86,9 +86,8 @@ fn happens<W: Log + Threads + Wait + Clock + Copy + Send + Sync + Drop>(
     turn: u64,
 ) -> Result<(), Refusal> {
     let place = (turn % 4) as usize;
-    match groups.chosen.get(place) {
-        Some(group) => stir(rt, alloc, &**group, turn)?,
-        None => stir(rt, alloc, &*groups.random, turn)?,
+    if let Some(group) = groups.handles.get(place) {
+        stir(rt, alloc, &**group, turn)?;
     }
     let [registry, other] = &site.registries;
     match turn % 16 {
@@ -129,12 +128,12 @@ fn used<W: Log + Threads + Wait + Clock + Copy + Send + Sync + Drop + 'static>(
 ) -> Result<u64, Error> {
     all_start(rt, alloc, groups)?;
     let tally = Arc::new(alloc, Tally::new())?;
-    let [first, second, third] = &groups.chosen;
+    let [first, second, third, last] = &groups.handles;
     let users = [
         start_user(rt, alloc, first, &tally),
         start_user(rt, alloc, second, &tally),
         start_user(rt, alloc, third, &tally),
-        start_user(rt, alloc, &groups.random, &tally),
+        start_user(rt, alloc, last, &tally),
     ];
     let stirred = stirred(rt, alloc, site, groups, is_cancelled);
     tally.over.store(true, SeqCst);
@@ -178,21 +177,28 @@ fn round<W: Log + Threads + Wait + Clock + Copy + Send + Sync + Drop + 'static>(
     left(rt, alloc, site, groups)
 }
 
+// Updates each group, and waits until it serves that.
+fn all_settle<W: Wait + Clock + Copy + Drop>(
+    rt: &W,
+    alloc: Global,
+    groups: &Groups<W>,
+) -> Result<(), Error> {
+    for group in &groups.handles {
+        stir(rt, alloc, &**group, 0)?;
+        if !settles(rt, &**group) {
+            Err(Fault::Wrong)?;
+        }
+    }
+    Ok(())
+}
+
 // Groups that serve what they were updated to, and in which nothing happens for ten seconds.
 fn idle<
     W: Log + Threads + Wait + Clock + Files + AllocGlobal + Copy + Send + Sync + Drop + 'static,
 >(rt: &W, alloc: Global, site: &Site) -> Result<(), Error> {
     let groups = Groups::new(*rt, alloc, site)?;
     all_start(rt, alloc, &groups)?;
-    let mut are_served = true;
-    for group in &groups.chosen {
-        stir(rt, alloc, &**group, 0)?;
-        are_served &= settles(rt, &**group);
-    }
-    stir(rt, alloc, &*groups.random, 0)?;
-    if !are_served || !settles(rt, &*groups.random) {
-        Err(Fault::Wrong)?;
-    }
+    all_settle(rt, alloc, &groups)?;
     let before = Process::read(rt)?.ticks;
     thread::sleep(rt, Duration::from_secs(IDLE));
     let taken = Process::read(rt)?.ticks.saturating_sub(before);

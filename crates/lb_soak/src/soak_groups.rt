@@ -12,7 +12,6 @@ use lb_health_core::keys::{KeyRule, Rule};
 use lb_health_view::discovery::{Discovered, DiscoverySource, ServiceDiscovery};
 use lb_health_view::view::Settings;
 use lb_script::kinds::{Chosen, Kind};
-use lb_select::selection::Random;
 use lb_select_base::backend::Backend;
 use lb_select_base::refusal::Refusal;
 use lb_select_base::walk::BackendSelection;
@@ -92,11 +91,8 @@ impl HealthCheck for Flips {
     }
 }
 
-/// The handle of a group of the soak.
+/// The handle of a group of the soak, whose slots have selectors of type `S`.
 pub type Handle<W, S> = LoadBalancerGroup<Counted<W, S>, Generations, Rule<NoRule>, Flips>;
-
-// A group of the soak that threads share.
-type Group<W, S> = SharedGroup<Configured<Counted<W, S>>, Rule<NoRule>, Flips>;
 
 /// A registry of the soak. The caller makes it, since a function that made one would hide its boxed rule.
 pub type Registry = HealthRegistry<Rule<NoRule>, Flips>;
@@ -147,44 +143,54 @@ fn group_on<W: Wait + Clock + Drop, S: BackendSelection>(
     }
 }
 
-// The groups of three handles.
+// The groups of these handles, which outlive them.
 fn shared_of<
     S: BackendSelection,
     D: ServiceDiscovery + Drop,
     R: KeyRule + Drop,
     C: HealthCheck + Drop,
 >(
-    handles: &[Arc<LoadBalancerGroup<S, D, R, C>>; 3],
-) -> Result<[Arc<SharedGroup<Configured<S>, R, C>>; 3], Refusal> {
-    let [first, second, third] = handles;
+    handles: &[Arc<LoadBalancerGroup<S, D, R, C>>; 4],
+) -> Result<[Arc<SharedGroup<Configured<S>, R, C>>; 4], Refusal> {
+    let [first, second, third, last] = handles;
     Ok([
         Arc::try_clone(first.shared())?,
         Arc::try_clone(second.shared())?,
         Arc::try_clone(third.shared())?,
+        Arc::try_clone(last.shared())?,
     ])
 }
 
-// Whether the workers of four groups end. The groups are dropped then.
-fn all_end<
-    S: BackendSelection,
-    T: BackendSelection,
-    R: KeyRule + Drop,
-    C: HealthCheck + Drop,
-    W: Wait + Clock,
->(rt: &W, (chosen, random): ([Arc<SharedGroup<S, R, C>>; 3], Arc<SharedGroup<T, R, C>>)) -> bool {
-    let mut have_ended = ends(rt, &*random, TURNS);
-    for group in &chosen {
+// Whether the workers of groups end.
+fn all_end<S: BackendSelection, R: KeyRule + Drop, C: HealthCheck + Drop, W: Wait + Clock>(
+    rt: &W,
+    groups: &[Arc<SharedGroup<S, R, C>>],
+) -> bool {
+    let mut have_ended = true;
+    for group in groups {
         have_ended &= ends(rt, &**group, TURNS);
     }
     have_ended
+}
+
+// Drops the handles of groups. Returns whether their workers end.
+fn dropped<
+    S: BackendSelection,
+    D: ServiceDiscovery + Drop,
+    R: KeyRule + Drop,
+    C: HealthCheck + Drop,
+    W: Wait + Clock,
+>(rt: &W, handles: [Arc<LoadBalancerGroup<S, D, R, C>>; 4]) -> Result<bool, Refusal> {
+    let shared = shared_of(&handles)?;
+    drop(handles);
+    Ok(all_end(rt, &shared))
 }
 
 /// The four groups, and the counts of the selectors on each gate.
 #[derive(Drop)]
 pub struct Groups<W: Wait + Clock + Copy + Drop> {
     counts: [Arc<Counts<W>>; 2],
-    pub chosen: [Arc<Handle<W, Chosen>>; 3],
-    pub random: Arc<Handle<W, Random>>,
+    pub handles: [Arc<Handle<W, Chosen>>; 4],
 }
 
 // Counts of a gate's selectors.
@@ -200,20 +206,24 @@ impl<W: Wait + Clock + Copy + Drop> Groups<W> {
         let [one, two] = &counts;
         let (turn, hash) = (Kind::RoundRobin, Kind::Fnv);
         let (ring, least) = (Kind::Ketama, Kind::Least);
-        let chosen = [
+        let handles = [
             group_on(&rt, alloc, gate, registry, one, turn, hash)?,
             group_on(&rt, alloc, gate, other, one, ring, least)?,
             group_on(&rt, alloc, other_gate, registry, two, least, turn)?,
+            group_on(
+                &rt,
+                alloc,
+                other_gate,
+                other,
+                two,
+                Kind::Random,
+                Kind::Random,
+            )?,
         ];
-        let random = group_on(&rt, alloc, other_gate, other, two, (), ())?;
         // Each slot has a selector now; those that were built to make the groups are gone.
         one.most.store(4, SeqCst);
         two.most.store(4, SeqCst);
-        Ok(Groups {
-            counts,
-            chosen,
-            random,
-        })
+        Ok(Groups { counts, handles })
     }
 
     /// Returns how many builds were begun.
@@ -226,32 +236,17 @@ impl<W: Wait + Clock + Copy + Drop> Groups<W> {
 
     /// Cancels one group on each gate.
     pub fn cancel_two(&self, rt: &W) {
-        let [_, second, _] = &self.chosen;
+        let [_, second, _, last] = &self.handles;
         second.cancel(rt);
-        self.random.cancel(rt);
+        last.cancel(rt);
     }
 
     /// Drops the groups. Returns whether their workers end, no more selectors than the slots and one lived on a gate, none lives on, each
     /// permit is back, and the registries have nothing to check.
     pub fn leave(self, rt: &W, alloc: Global, site: &Site) -> Result<[bool; 5], Refusal> {
-        let shared = self.shared()?;
-        let Groups {
-            counts,
-            chosen,
-            random,
-        } = self;
-        drop(chosen);
-        drop(random);
-        let have_ended = all_end(rt, shared);
+        let Groups { counts, handles } = self;
+        let have_ended = dropped(rt, handles)?;
         Ok(left(rt, alloc, site, &counts, have_ended))
-    }
-
-    // The groups themselves, which outlive their handles.
-    fn shared(&self) -> Result<([Arc<Group<W, Chosen>>; 3], Arc<Group<W, Random>>), Refusal> {
-        Ok((
-            shared_of(&self.chosen)?,
-            Arc::try_clone(self.random.shared())?,
-        ))
     }
 }
 
