@@ -1,5 +1,6 @@
 -- Lemmas on what a line asks for.
-use Rattle.std.proofs.Common.{◌≡◌, ◌∙◌, ◌++◌, List, ℕ, None, ap, codes, sym, subst, refl}
+use Rattle.std.proofs.Common.{◌≡◌, ◌∙◌, ◌++◌, List, ℕ, None, ap, codes, sym, subst, refl, false, bytes_eq}
+use Rattle.std.proofs.lemmas.Slice.Eq.{bytes_eq-Decides}
 use Rattle.std.specs.Str.{IsUtf8}
 use Rattle.std.proofs.lemmas.Bool.{false_from_ne_true}
 use Rattle.std.proofs.lemmas.Str.{is_utf8-from_IsUtf8, IsUtf8-from_is_utf8}
@@ -35,3 +36,7 @@ read_error meaning OutOfMemory h = h
 -- what is no text asks for nothing
 pub step_of-no_text : (line : List ℕ) → ¬ (IsUtf8 line) → step_of line ≡ None
 step_of-no_text line h = rw (false_from_ne_true (is_utf8 line) (λ is. h (IsUtf8-from_is_utf8 line is))) refl
+
+-- a word that is not another one
+pub other_word : (word other : List ℕ) → ¬ (word ≡ other) → bytes_eq word other ≡ false
+other_word word other h = false_from_ne_true (bytes_eq word other) (λ is. h ((bytes_eq-Decides word other).0 is))

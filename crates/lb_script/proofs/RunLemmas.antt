@@ -1,8 +1,7 @@
 -- Lemmas on the text of a script's run: how it goes on from line to line, and how it ends.
-use Rattle.std.proofs.Common.{◌≡◌, ◌≢◌, inl, inr, ℕ, ◌+◌, Bool, true, false, List, [], ◌∷◌, ◌++◌, codes, Option, Some, None, IfSome, OnOk}
-use Rattle.std.proofs.Common.{OnErr, Result, Ok, Err, refl, sym, ap, ◌∙◌, subst, append_assoc, append-nil, arith}
+use Rattle.std.proofs.Common.{◌≡◌, ◌≢◌, inl, inr, ℕ, ◌+◌, Bool, true, false, List, [], ◌∷◌, ◌++◌, codes, Option, Some, None, IfSome}
+use Rattle.std.proofs.Common.{refl, sym, ap, ◌∙◌, subst, append_assoc, append-nil, arith}
 use Rattle.std.specs.Io.KnownBytes.{Appends, prepend_known}
-use Rattle.std.specs.Result.{result_ok}
 use Rattle.std.proofs.KnownBytes.{Appends-nil, Appends-trans}
 use Rattle.lb_world.specs.History.{History}
 use Rattle.lb_world.specs.Meanings.{Meaning}
@@ -32,14 +31,10 @@ none_ahead : (left : Option (List ℕ)) (more : List ℕ) → prepend_known [] l
 none_ahead None more is = is
 none_ahead (Some xs) more is = is
 
--- what holds of a call whose value is there, and of one whose value isn't
-pub where_some : {T E P : Type 0} (r : Result T E) (u : T) → result_ok r ≡ Some u → OnOk r P → P
-where_some (Ok x) u is p = p
-where_some (Err e) u is p = cc
-
-pub where_none : {T E P : Type 0} (r : Result T E) → result_ok r ≡ None → OnErr r P → P
-where_none (Ok x) is p = cc
-where_none (Err e) is p = p
+-- what holds at the end by the status, where all was written
+pub on_status : (r : Option ℕ) (status : ℕ) (P : Type 0) (Q : ℕ → Type 0) → IfSome r (λ s. (s ≡ status) × P) → (P → Q status) → IfSome r Q
+on_status None status P Q is f = tt
+on_status (Some s) status P Q is f = subst Q (sym is.0) (f is.1)
 
 on_script : (o : Option (List ℕ)) (P Q : List ℕ → Type 0) → IfSome o P → ((script : List ℕ) → P script → Q script) → IfSome o Q
 on_script None P Q p f = tt
@@ -253,25 +248,25 @@ module _ (M : Meaning Kind) where
       (failed : Bool)
       → IfSome o (λ script. SoFar script left old new waiting w k)
       → (r : LineTurn) → r ≡ LastAnswered → Gives left now w v (Joins new mid waiting after) r
-      → failed ≡ false → Appends mid newer after → IfSome o (λ script. Wrote M failed script unread old newer 0)
+      → failed ≡ false → Appends mid newer (after ++ []) → IfSome o (λ script. Wrote M failed script unread old newer 0)
   ends_with_line o left now unread old new mid newer waiting after w v k failed so r given next fine put =
       on_script o (λ script. SoFar script left old new waiting w k) (λ script. Wrote M failed script unread old newer 0) so
       (λ script s.
       let last = (taken s now v (Joins new mid waiting after) r LastAnswered given next).2 in
       wrote s failed unread mid newer after (answer_text last.answered.a ++ codes "\n") [] 0 last.answered.printed
-      (subst (Appends mid newer) (sym (append-nil after)) put) (last_line s unread v (Joins new mid waiting after) failed fine last))
+      put (last_line s unread v (Joins new mid waiting after) failed fine last))
 
   pub stops_in_last : (o left now unread old new mid newer : Option (List ℕ)) (waiting after : List ℕ) (w v : WorldValue Kind) (k : ℕ)
       (failed : Bool)
       → IfSome o (λ script. SoFar script left old new waiting w k)
       → (r : LineTurn) → r ≡ LastAnswered → Gives left now w v (Joins new mid waiting after) r
-      → failed ≡ false → AppendsFront mid newer after → IfSome o (λ script. WroteFront M failed script unread old newer)
+      → failed ≡ false → AppendsFront mid newer (after ++ []) → IfSome o (λ script. WroteFront M failed script unread old newer)
   stops_in_last o left now unread old new mid newer waiting after w v k failed so r given next fine put =
       on_script o (λ script. SoFar script left old new waiting w k) (λ script. WroteFront M failed script unread old newer) so
       (λ script s.
       let last = (taken s now v (Joins new mid waiting after) r LastAnswered given next).2 in
       wrote_front s failed unread mid newer after (answer_text last.answered.a ++ codes "\n") [] 0 last.answered.printed
-      (subst (AppendsFront mid newer) (sym (append-nil after)) put) (last_line s unread v (Joins new mid waiting after) failed fine last))
+      put (last_line s unread v (Joins new mid waiting after) failed fine last))
 
   -- at the end of the stream
   over : {script : List ℕ} {left old new : Option (List ℕ)} {waiting : List ℕ} {w : WorldValue Kind} {k : ℕ}
@@ -285,24 +280,24 @@ module _ (M : Meaning Kind) where
       (failed : Bool)
       → IfSome o (λ script. SoFar script left old new waiting w k)
       → (r : LineTurn) → r ≡ Ended → Gives left now w v (Joins new mid waiting after) r
-      → failed ≡ false → Appends mid newer after → IfSome o (λ script. Wrote M failed script unread old newer 0)
+      → failed ≡ false → Appends mid newer (after ++ []) → IfSome o (λ script. Wrote M failed script unread old newer 0)
   is_over o left now unread old new mid newer waiting after w v k failed so r given next fine put =
       on_script o (λ script. SoFar script left old new waiting w k) (λ script. Wrote M failed script unread old newer 0) so
       (λ script s.
       let n = taken s now v (Joins new mid waiting after) r Ended given next in
-      wrote s failed unread mid newer after [] [] 0 n.2.1 (subst (Appends mid newer) (sym (append-nil after)) put)
+      wrote s failed unread mid newer after [] [] 0 n.2.1 put
       (over s unread failed fine n.2.0))
 
   pub stops_at_end : (o left now unread old new mid newer : Option (List ℕ)) (waiting after : List ℕ) (w v : WorldValue Kind) (k : ℕ)
       (failed : Bool)
       → IfSome o (λ script. SoFar script left old new waiting w k)
       → (r : LineTurn) → r ≡ Ended → Gives left now w v (Joins new mid waiting after) r
-      → failed ≡ false → AppendsFront mid newer after → IfSome o (λ script. WroteFront M failed script unread old newer)
+      → failed ≡ false → AppendsFront mid newer (after ++ []) → IfSome o (λ script. WroteFront M failed script unread old newer)
   stops_at_end o left now unread old new mid newer waiting after w v k failed so r given next fine put =
       on_script o (λ script. SoFar script left old new waiting w k) (λ script. WroteFront M failed script unread old newer) so
       (λ script s.
       let n = taken s now v (Joins new mid waiting after) r Ended given next in
-      wrote_front s failed unread mid newer after [] [] 0 n.2.1 (subst (AppendsFront mid newer) (sym (append-nil after)) put)
+      wrote_front s failed unread mid newer after [] [] 0 n.2.1 put
       (over s unread failed fine n.2.0))
 
   -- the writer failed with a front of what waited

@@ -37,29 +37,30 @@ pub(crate) fn group(alloc: Global, words: Words<'_>) -> Result<Step<Kind>, Scrip
 fn group_parts(mut words: Words<'_>) -> Option<((u64, u64), (Kind, u64))>
     ensures { result ≡ group_parts_of words.entry }
 {
-    let registry = number(words.next()?)?;
-    let gate = number(words.next()?)?;
-    let kind = kind(words.next()?)?;
-    let slots = slot_count(words.next()?)?;
-    match words.next() {
-        None => Some(((registry, gate), (kind, slots))),
-        Some(_) => None,
-    }
+    let (Some(registry), Some(gate), Some(name), Some(slots), None) = (
+        words.next(),
+        words.next(),
+        words.next(),
+        words.next(),
+        words.next(),
+    ) else {
+        return None;
+    };
+    Some((
+        (number(registry)?, number(gate)?),
+        (kind(name)?, slot_count(slots)?),
+    ))
 }
 
 fn kind(word: &str) -> Option<Kind>
     ensures { result ≡ selector_kind_of word.now }
 {
-    if word == "fnv" {
-        Some(Kind::Fnv)
-    } else if word == "rr" {
-        Some(Kind::RoundRobin)
-    } else if word == "ketama" {
-        Some(Kind::Ketama)
-    } else if word == "least" {
-        Some(Kind::Least)
-    } else {
-        None
+    match word {
+        "fnv" => Some(Kind::Fnv),
+        "rr" => Some(Kind::RoundRobin),
+        "ketama" => Some(Kind::Ketama),
+        "least" => Some(Kind::Least),
+        _ => None,
     }
 }
 

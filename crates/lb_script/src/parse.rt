@@ -76,13 +76,11 @@ fn step<'a>(alloc: Global, mut words: Words<'a>) -> Result<LineStep<'a>, ScriptE
 fn other_step(alloc: Global, first: &str, words: Words<'_>) -> Result<Step<Kind>, ScriptError>
     ensures { Reads step_seen (other_step_of first.now words.entry) result }
 {
-    if first == "update" {
-        return update(alloc, words);
+    match first {
+        "update" => update(alloc, words),
+        "group" => group(alloc, words),
+        _ => backend_step(alloc, first, words),
     }
-    if first == "group" {
-        return group(alloc, words);
-    }
-    backend_step(alloc, first, words)
 }
 
 fn select<'a>(words: Words<'a>) -> Option<LineStep<'a>>
@@ -101,15 +99,17 @@ fn select<'a>(words: Words<'a>) -> Option<LineStep<'a>>
 fn select_parts<'a>(mut words: Words<'a>) -> Option<((u64, u64), (&'a str, u64))>
     ensures { option_map (λ p. (p.0, (p.1.0.now, p.1.1))) result ≡ select_parts_of words.entry }
 {
-    let group = number(words.next()?)?;
-    let slot = number(words.next()?)?;
-    let key = words.next()?;
-    let limit = number(words.next()?)?;
+    let (Some(group), Some(slot), Some(key), Some(limit), None) = (
+        words.next(),
+        words.next(),
+        words.next(),
+        words.next(),
+        words.next(),
+    ) else {
+        return None;
+    };
     if key.is_empty() {
         return None;
     }
-    match words.next() {
-        None => Some(((group, slot), (key, limit))),
-        Some(_) => None,
-    }
+    Some(((number(group)?, number(slot)?), (key, number(limit)?)))
 }

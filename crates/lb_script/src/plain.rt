@@ -1,8 +1,9 @@
 //! The steps whose words are read without memory, by their shapes.
 //! A shape is a slot, a slot with a moment, or one number; the rest have one of their own.
-ghost use Rattle.std.specs.Prelude.{◌≡◌, option_map};
+ghost use Rattle.std.specs.Prelude.{◌≡◌, ℕ, List, option_map};
 ghost use Rattle.lb_script.specs.StepLines.{slot_of, slot_moment_of, lone_of, cell_key_of, verdict_of, starts_healthy_of};
 ghost use Rattle.lb_script.specs.StepLines.{registry_of, gate_of, verdict_step_of, lone_step_of, slot_step_of, plain_step_of};
+ghost use Rattle.lb_script.specs.Internal.SlotWords.{slot_word_step};
 ghost use Rattle.lb_world.specs.Steps.{step_seen};
 
 use crate::kinds::Kind;
@@ -14,79 +15,91 @@ use lb_world::step::{CellKey, Step};
 pub(crate) fn plain_step(first: &str, words: Words<'_>) -> Option<Step<Kind>>
     ensures { option_map step_seen result ≡ plain_step_of first.now words.entry }
 {
-    if first == "ask" {
-        let ((group, slot), now) = slot_moment(words)?;
-        return Some(Step::Ask { group, slot, now });
+    match first {
+        "ask" => {
+            let ((group, slot), now) = slot_moment(words)?;
+            Some(Step::Ask { group, slot, now })
+        }
+        "build" => {
+            let ((group, slot), now) = slot_moment(words)?;
+            Some(Step::Build { group, slot, now })
+        }
+        "failbuild" => {
+            let ((group, slot), now) = slot_moment(words)?;
+            Some(Step::FailBuild { group, slot, now })
+        }
+        _ => slot_step(first, words),
     }
-    if first == "build" {
-        let ((group, slot), now) = slot_moment(words)?;
-        return Some(Step::Build { group, slot, now });
+}
+
+// The steps that name a slot alone, each by its first word.
+#[derive(Clone, Copy)]
+enum SlotWord {
+    Publish,
+    Enter,
+    Destroy,
+    Lost,
+    Abandon,
+    Counts,
+    Timing,
+}
+
+fn slot_word(first: &str) -> Option<SlotWord>
+    ensures { (words : List (List ℕ)) → slot_step_of first.now words ≡ slot_word_step first.now result words }
+{
+    match first {
+        "publish" => Some(SlotWord::Publish),
+        "enter" => Some(SlotWord::Enter),
+        "destroy" => Some(SlotWord::Destroy),
+        "lost" => Some(SlotWord::Lost),
+        "abandon" => Some(SlotWord::Abandon),
+        "counts" => Some(SlotWord::Counts),
+        "timing" => Some(SlotWord::Timing),
+        _ => None,
     }
-    if first == "failbuild" {
-        let ((group, slot), now) = slot_moment(words)?;
-        return Some(Step::FailBuild { group, slot, now });
-    }
-    slot_step(first, words)
 }
 
 // A step at a slot, or a further one, by its first word.
 fn slot_step(first: &str, words: Words<'_>) -> Option<Step<Kind>>
     ensures { option_map step_seen result ≡ slot_step_of first.now words.entry }
 {
-    if first == "publish" {
-        let (group, slot) = slot(words)?;
-        return Some(Step::Publish { group, slot });
-    }
-    if first == "enter" {
-        let (group, slot) = slot(words)?;
-        return Some(Step::Enter { group, slot });
-    }
-    if first == "destroy" {
-        let (group, slot) = slot(words)?;
-        return Some(Step::Destroy { group, slot });
-    }
-    if first == "lost" {
-        let (group, slot) = slot(words)?;
-        return Some(Step::Lost { group, slot });
-    }
-    if first == "abandon" {
-        let (group, slot) = slot(words)?;
-        return Some(Step::Abandon { group, slot });
-    }
-    if first == "counts" {
-        let (group, slot) = slot(words)?;
-        return Some(Step::Counts { group, slot });
-    }
-    if first == "timing" {
-        let (group, slot) = slot(words)?;
-        return Some(Step::Timing { group, slot });
-    }
-    lone_step(first, words)
+    let Some(word) = slot_word(first) else {
+        return lone_step(first, words);
+    };
+    let (group, slot) = slot(words)?;
+    Some(match word {
+        SlotWord::Publish => Step::Publish { group, slot },
+        SlotWord::Enter => Step::Enter { group, slot },
+        SlotWord::Destroy => Step::Destroy { group, slot },
+        SlotWord::Lost => Step::Lost { group, slot },
+        SlotWord::Abandon => Step::Abandon { group, slot },
+        SlotWord::Counts => Step::Counts { group, slot },
+        SlotWord::Timing => Step::Timing { group, slot },
+    })
 }
 
 // A step that names one number, gives a verdict or makes something, by its first word.
 fn lone_step(first: &str, words: Words<'_>) -> Option<Step<Kind>>
     ensures { option_map step_seen result ≡ lone_step_of first.now words.entry }
 {
-    if first == "leave" {
-        let reader = lone(words)?;
-        return Some(Step::Leave { reader });
+    match first {
+        "leave" => {
+            let reader = lone(words)?;
+            Some(Step::Leave { reader })
+        }
+        "verdict" => verdict(words),
+        "targets" => {
+            let registry = lone(words)?;
+            Some(Step::Targets { registry })
+        }
+        "cancel" => {
+            let group = lone(words)?;
+            Some(Step::Cancel { group })
+        }
+        "registry" => registry(words),
+        "gate" => gate(words),
+        _ => None,
     }
-    if first == "verdict" {
-        return verdict(words);
-    }
-    if first == "targets" {
-        let registry = lone(words)?;
-        return Some(Step::Targets { registry });
-    }
-    if first == "cancel" {
-        let group = lone(words)?;
-        return Some(Step::Cancel { group });
-    }
-    if first == "registry" {
-        return registry(words);
-    }
-    if first == "gate" { gate(words) } else { None }
 }
 
 // One number.
@@ -129,31 +142,31 @@ fn slot_moment(mut words: Words<'_>) -> Option<((u64, usize), u128)>
 fn verdict(mut words: Words<'_>) -> Option<Step<Kind>>
     ensures { option_map step_seen result ≡ verdict_step_of words.entry }
 {
-    let registry = number(words.next()?)?;
-    let cell = number(words.next()?)?;
-    let ok = is_ok(words.next()?)?;
-    let threshold = number(words.next()?)?;
-    match words.next() {
-        None => Some(Step::Verdict {
-            registry,
-            cell,
-            ok,
-            threshold: threshold as usize,
-        }),
-        Some(_) => None,
-    }
+    let (Some(registry), Some(cell), Some(ok), Some(threshold), None) = (
+        words.next(),
+        words.next(),
+        words.next(),
+        words.next(),
+        words.next(),
+    ) else {
+        return None;
+    };
+    Some(Step::Verdict {
+        registry: number(registry)?,
+        cell: number(cell)?,
+        ok: is_ok(ok)?,
+        threshold: number(threshold)? as usize,
+    })
 }
 
 // Whether the word says that a check was passed.
 fn is_ok(word: &str) -> Option<bool>
     ensures { result ≡ verdict_of word.now }
 {
-    if word == "ok" {
-        Some(true)
-    } else if word == "fail" {
-        Some(false)
-    } else {
-        None
+    match word {
+        "ok" => Some(true),
+        "fail" => Some(false),
+        _ => None,
     }
 }
 
@@ -168,12 +181,10 @@ fn registry(mut words: Words<'_>) -> Option<Step<Kind>>
 fn cell_key(word: &str) -> Option<CellKey>
     ensures { result ≡ cell_key_of word.now }
 {
-    if word == "identity" {
-        Some(CellKey::Identity)
-    } else if word == "address" {
-        Some(CellKey::Address)
-    } else {
-        None
+    match word {
+        "identity" => Some(CellKey::Identity),
+        "address" => Some(CellKey::Address),
+        _ => None,
     }
 }
 

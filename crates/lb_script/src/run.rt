@@ -1,10 +1,12 @@
 //! Runs a whole script: one answer for each line, and one more line where it ends early. The text is that of a world's run, whatever the
 //! reader and the writer are.
-ghost use Rattle.std.specs.Prelude.{◌≡◌, ℕ, ◌++◌, false, true, codes, OnOk, OnErr, IfSome, is_none};
+ghost use Rattle.std.specs.Prelude.{◌≡◌, ℕ, [], ◌++◌, false, true, codes, OnOk, OnErr, IfSome, is_none};
 ghost use Rattle.std.specs.Io.KnownBytes.{Appends};
 ghost use Rattle.lb_world.specs.Meanings.{meaning_of};
+ghost use Rattle.lb_world.specs.Stands.{Stands};
 ghost use Rattle.lb_stream.specs.Counted.{inner_of, has_failed, is_flushed};
 ghost use Rattle.lb_stream.specs.Stream.{AppendsFront};
+ghost use Rattle.lb_script.specs.Internal.Session.{end_text, end_status};
 ghost use Rattle.lb_script.specs.Output.{Wrote, WroteFront};
 ghost use Rattle.lb_script.specs.Texts.{error_text};
 
@@ -94,45 +96,79 @@ where
     ensures writer_failed { has_failed writer.new ≡ is_none result }
 {
     let mut session = Session::<S>::new(alloc);
+    take_turns(alloc, &mut session, reader, writer)
+}
+
+// Takes turns of a session that is new, until one ends the script. `None` where the writer failed.
+fn take_turns<S, R, W>(
+    alloc: Global,
+    session: &mut Session<S>,
+    reader: &mut Counted<R>,
+    writer: &mut Counted<W>,
+) -> Option<u8>
+where
+    S: BackendSelection<Config = Kind>,
+    R: Read,
+    W: Write,
+    requires stands { Stands (meaning_of S.BackendSelection) session.old.world [] }
+    requires ahead { session.old.ahead ≡ [] }
+    requires waiting { session.old.waiting.items ≡ [] }
+    requires fresh_reader { has_failed reader.old ≡ false }
+    requires fresh_writer { has_failed writer.old ≡ false }
+    ensures some { IfSome result (λ status. IfSome (R.remaining (inner_of reader.old)) (λ script.
+        Wrote (meaning_of S.BackendSelection) (has_failed reader.new) script (R.remaining (inner_of reader.new))
+        (W.contents (inner_of writer.old)) (W.contents (inner_of writer.new)) status)) }
+    ensures none { result ≡ None → IfSome (R.remaining (inner_of reader.old)) (λ script.
+        WroteFront (meaning_of S.BackendSelection) (has_failed reader.new) script (R.remaining (inner_of reader.new))
+        (W.contents (inner_of writer.old)) (W.contents (inner_of writer.new))) }
+    ensures writer_failed { has_failed writer.new ≡ is_none result }
+{
     for number in 1..u64::MAX {
         match session.take_turn(alloc, reader, writer) {
             LineTurn::Answered => {}
-            LineTurn::LastAnswered => {
-                writer.put(&session.waiting).ok()?;
-                return Some(0);
-            }
-            LineTurn::Ended => {
-                writer.put(&session.waiting).ok()?;
-                return Some(0);
-            }
+            LineTurn::LastAnswered => return put_end(writer, &session.waiting, number, None),
+            LineTurn::Ended => return put_end(writer, &session.waiting, number, None),
             LineTurn::Failed(error) => {
-                put_last(writer, &session.waiting, number, error).ok()?;
-                return Some(1);
+                return put_end(writer, &session.waiting, number, Some(error));
             }
             LineTurn::WriteFailed => return None,
         }
     }
     // A line past the last number counts as one that memory was refused at.
-    put_last(writer, &session.waiting, u64::MAX, ScriptError::OutOfMemory).ok()?;
-    Some(1)
+    put_end(
+        writer,
+        &session.waiting,
+        u64::MAX,
+        Some(ScriptError::OutOfMemory),
+    )
 }
 
-// Writes what waits and then the last line of a script that ends at that line. No memory is taken.
-fn put_last<W: Write>(
+// Writes what waits, and the line of the error that ended the script at that line, if one did. Returns the script's status, or `None`
+// where the writer failed. No memory is taken.
+fn put_end<W: Write>(
     writer: &mut Counted<W>,
     waiting: &[u8],
     line: u64,
-    error: ScriptError,
-) -> io::Result<()>
-    ensures ok { OnOk result (Appends (W.contents (inner_of writer.old)) (W.contents (inner_of writer.new))
-        (waiting.now ++ (error_text line error ++ codes "\n"))) }
-    ensures part { OnErr result (AppendsFront (W.contents (inner_of writer.old)) (W.contents (inner_of writer.new))
-        (waiting.now ++ (error_text line error ++ codes "\n"))) }
-    ensures kept { OnOk result (has_failed writer.new ≡ has_failed writer.old) }
-    ensures noted { OnErr result (has_failed writer.new ≡ true) }
+    error: Option<ScriptError>,
+) -> Option<u8>
+    requires fresh_writer { has_failed writer.old ≡ false }
+    ensures some { IfSome result (λ status. (status ≡ end_status error)
+        × Appends (W.contents (inner_of writer.old)) (W.contents (inner_of writer.new)) (waiting.now ++ end_text line error)) }
+    ensures none { result ≡ None
+        → AppendsFront (W.contents (inner_of writer.old)) (W.contents (inner_of writer.new)) (waiting.now ++ end_text line error) }
+    ensures writer_failed { has_failed writer.new ≡ is_none result }
 {
-    writer.put(waiting)?;
-    put_error(writer, line, error)
+    match writer.put(waiting) {
+        Ok(()) => {}
+        Err(_) => return None,
+    }
+    let Some(error) = error else {
+        return Some(0);
+    };
+    match put_error(writer, line, error) {
+        Ok(()) => Some(1),
+        Err(_) => None,
+    }
 }
 
 // Writes the last line of a script that ends at that line. No memory is taken.

@@ -15,7 +15,7 @@ use Rattle.lb_script.specs.declared.session.LineTurn.TheVariants.{Answered, Last
 use Rattle.lb_script.specs.declared.kinds.Kind.{Kind}
 use Rattle.lb_stream.specs.Lines.{first_line, HasNoFeed, IsLine}
 use Rattle.lb_script.specs.StepLines.{step_of}
-use Rattle.lb_script.specs.Texts.{answer_text}
+use Rattle.lb_script.specs.Texts.{answer_text, error_text}
 
 -- a text joined what waited to be written: the front of both went to the writer, and the rest waits now
 abbrev pub Joins : (old new : Option (List ℕ)) (before after text : List ℕ) → Type 0
@@ -27,6 +27,15 @@ FailsFor BadLine stream rest = (stream ≢ []) × (length (first_line stream) �
 FailsFor LineTooLong stream rest = 16777216 < length (first_line stream)
 FailsFor Read stream rest = (part : List ℕ) × HasNoFeed part × (stream ≡ part ++ rest)
 FailsFor OutOfMemory stream rest = stream ≢ []
+
+-- what a run writes after the last answer, at that line, and its status: nothing and 0 where no error ended the script
+abbrev pub end_text : ℕ → Option ScriptError → List ℕ
+end_text line None = []
+end_text line (Some e) = error_text line e ++ codes "\n"
+
+abbrev pub end_status : Option ScriptError → ℕ
+end_status None = 0
+end_status (Some e) = 1
 
 -- `P text` says what became of the text of an answer, and `P []` that there was none
 module _ (M : Meaning Kind) where

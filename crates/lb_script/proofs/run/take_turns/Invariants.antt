@@ -3,7 +3,7 @@ use Rattle.std.specs.Io.KnownBytes.{prepend_known}
 use Rattle.lb_world.specs.Meanings.{meaning_of}
 use Rattle.lb_stream.specs.Counted.{inner_of, has_failed}
 use Rattle.lb_script.proofs.RunLemmas.{SoFar}
-use Rattle.lb_script.proofs.run.answer_lines.Given as goal
+use Rattle.lb_script.proofs.run.take_turns.Given as goal
 
 abbrev pub invariant-loop-number : goal.invariant-loop-number
 invariant-loop-number g l = record {
