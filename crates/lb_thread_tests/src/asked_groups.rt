@@ -1,5 +1,5 @@
 //! What tests do with the handle of a group, as a trait. A function that is generic over it has none of a group's types: each function that
-//! has them takes the checker some seconds more. Most calls are one method, since a call that is given a handle takes some seconds for each.
+//! has them takes the checker some seconds more. Most calls are one method: a call that is given a handle takes some seconds for each.
 use crate::turns::turn;
 use pingora_load_balancing::discovery::ServiceDiscovery;
 use pingora_load_balancing::health_check::{HealthCheck, KeyRule};
