@@ -6,6 +6,7 @@ use crate::shared::{BATCH, Halves, LIMIT, PAUSE, next_key};
 use crate::starting::{Work, joined, starts};
 use crate::words::{Usage, number_at, word_at};
 use anyhow::Error;
+use lb_background::lending::LendsToThreads;
 use lb_balancer_group::group::LoadBalancerGroup;
 use lb_health_core::error::CheckError;
 use lb_health_core::health_check::HealthCheck;
@@ -160,7 +161,7 @@ fn changed<S: BackendSelection, R: Log + Threads + Wait + Clock + Copy + Sync>(
 ) -> Result<(), Refusal> {
     group.update(rt, alloc, clock)?;
     if turn % UPDATES == 0 {
-        group.backends().run_health_check(rt, alloc, false)?;
+        group.health_registry().run_health_check(rt, alloc, false)?;
     }
     Ok(())
 }

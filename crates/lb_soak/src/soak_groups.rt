@@ -1,5 +1,6 @@
 //! The groups of the soak: four of two slots each, two on each of two gates and two over each of two registries. Their slots have selectors
 //! of all five kinds.
+use lb_background::lending::LendsToThreads;
 use lb_balancer_core::configured::Configured;
 use lb_balancer_group::gate_refusal::GateRefusal;
 use lb_balancer_group::group::LoadBalancerGroup;
@@ -295,7 +296,7 @@ pub fn stir<W: Wait + Clock + Copy + Drop, S: BackendSelection>(
     let generation = group.update(rt, alloc, &mut RuntimeClock::new(*rt))?;
     let place = (turn % 4) as u32;
     let backend = member_of(alloc, generation, place);
-    group.backends().set_enable(rt, &backend, turn % 3 == 0);
+    group.flag(rt, &backend, turn % 3 == 0);
     group.set_load(rt, alloc, &backend, turn)
 }
 

@@ -4,7 +4,7 @@ use crate::turns::turn;
 use pingora_load_balancing::discovery::ServiceDiscovery;
 use pingora_load_balancing::health_check::{HealthCheck, KeyRule};
 use pingora_load_balancing::selection::BackendSelection;
-use pingora_load_balancing::{Backend, LoadBalancerGroup, MomentSource, Refusal};
+use pingora_load_balancing::{Backend, LendsToThreads, LoadBalancerGroup, MomentSource, Refusal};
 use std::alloc::Global;
 use std::sync::Wait;
 
@@ -75,7 +75,7 @@ impl<
                 Answer::Done(self.set_load(rt, alloc, backend, load))
             }
             Call::SetEnable(backend, enabled) => {
-                self.backends().set_enable(rt, backend, enabled);
+                self.flag(rt, backend, enabled);
                 Answer::Done(Ok(()))
             }
             Call::AreNewest => {

@@ -12,7 +12,9 @@ use pingora_load_balancing::prelude::{
     Backends, HealthCheckService, HealthRegistry, LoadBalancer, RoundRobin,
 };
 use pingora_load_balancing::selection::Consistent;
-use pingora_load_balancing::{Backend, InetAddr, LoadBalancerGroup, Refusal, SocketAddr};
+use pingora_load_balancing::{
+    Backend, InetAddr, LendsToThreads, LoadBalancerGroup, Refusal, SocketAddr,
+};
 use std::alloc::Global;
 use std::process::Abort;
 use std::sync::atomic::Ordering::SeqCst;
@@ -147,7 +149,7 @@ fn look<W: Abort + Wait>(
     text: &mut String,
 ) {
     let second = Backend::new(alloc, "1.0.0.2:80").expect(rt, "refused");
-    let is_ready = group.backends().ready(rt, &second);
+    let is_ready = group.newest_ready(rt, &second);
     write!(text, " {is_ready}").expect(rt, "refused");
     let found = group.select(rt, alloc, 0, b"k", 1000);
     note(rt, text, &found.expect(rt, "refused"));
@@ -181,7 +183,7 @@ fn grouped<W: Abort + Log + Threads + Wait + Sync>(
     words.is_down.store(false, SeqCst);
     group.run_health_check(rt, alloc).expect(rt, "refused");
     let first = Backend::new(alloc, "1.0.0.1:80").expect(rt, "refused");
-    group.backends().set_enable(rt, &first, false);
+    group.flag(rt, &first, false);
     look(rt, alloc, group, text);
 }
 

@@ -201,10 +201,7 @@ fn act<R: Abort + Log + Threads + Wait + Clock + Copy + Send + Sync + Drop + 'st
             group
                 .set_health_check(rt, second_down(rt, &bench.checks))
                 .expect(rt, "refused");
-            group
-                .backends()
-                .run_health_check(rt, alloc, false)
-                .expect(rt, "refused");
+            group.run_health_check(rt, alloc).expect(rt, "refused");
             0
         }
         Deed::StartWorkers => group.start_workers(rt, alloc, RuntimeClock::new(*rt)),

@@ -5,7 +5,7 @@ use lb_threads_core::registry::{put_registry, take_registry};
 use pingora_load_balancing::discovery::{DiscoverySource, Static};
 use pingora_load_balancing::health_check::{NoRule, Rule};
 use pingora_load_balancing::prelude::RoundRobin;
-use pingora_load_balancing::{Backend, Backends, HealthRegistry, LoadBalancer};
+use pingora_load_balancing::{Backend, Backends, HealthRegistry, LendsToThreads, LoadBalancer};
 use std::alloc::Global;
 use std::process::Abort;
 use std::sync::{Arc, Wait};
@@ -67,7 +67,7 @@ fn leaves<R: Abort + Wait + Clock + Copy + Drop>(
     balancer.leave(rt);
     count(rt, alloc, registry, text);
     let second = Backend::new(alloc, "1.0.0.2:80").expect(rt, "refused");
-    let is_ready = balancer.backends().ready(rt, &second);
+    let is_ready = balancer.newest_ready(rt, &second);
     write!(text, " {is_ready}").expect(rt, "refused");
     balancer.leave(rt);
 }

@@ -2,7 +2,7 @@
 use crate::balancer::fixtures::{Tested, note};
 use crate::service_fixtures::Ticks;
 use pingora_load_balancing::prelude::RoundRobin;
-use pingora_load_balancing::{Backend, LoadBalancer, Refusal};
+use pingora_load_balancing::{Backend, LendsToThreads, LoadBalancer, Refusal};
 use std::alloc::Global;
 use std::net::Net;
 use std::process::Abort;
@@ -28,7 +28,7 @@ fn note_ready<R: Abort + Wait + Clock + Copy + Drop>(
     text: &mut String,
 ) {
     let backend = Backend::new(alloc, address).expect(rt, "refused");
-    let is_ready = balancer.backends().ready(rt, &backend);
+    let is_ready = balancer.newest_ready(rt, &backend);
     write!(text, " {is_ready}").expect(rt, "refused");
 }
 
@@ -46,7 +46,7 @@ fn look<R: Abort + Wait + Clock + Copy + Drop>(
         let (discovery, build) = (timing.discovery_duration, timing.build_duration);
         write!(text, " took {discovery} {build}").expect(rt, "refused");
     }
-    let members = balancer.backends().get_backend(rt);
+    let members = balancer.newest_members(rt);
     let members = members.expect(rt, "refused").len();
     write!(text, " members {members} ready").expect(rt, "refused");
     note_ready(rt, alloc, balancer, "1.0.0.1:80", text);
