@@ -4,6 +4,9 @@ ghost use Rattle.std.specs.Borrow.{Bor};
 ghost use Rattle.std.specs.Iterator.{Drains, IsFinite};
 ghost use Rattle.lb_health_core.specs.Keys.{rule_gives};
 ghost use Rattle.lb_balancer_core.specs.Texts.{IsTextsRefusal};
+ghost use Rattle.lb_health_view.specs.ViewEvents.{ViewEvent, generation_after, membership_after};
+ghost use Rattle.lb_health_view.specs.Views.{IsViewAfter};
+ghost use Rattle.lb_balancer.specs.History.{AreDiscovered};
 ghost use Rattle.lb_balancer.specs.Made.{IsNotSetYet};
 ghost use Rattle.lb_balancer.specs.Texts.{IsOfTexts, OfNew};
 
@@ -69,21 +72,7 @@ impl<
             clock,
             generator,
         )?;
-        let LoadBalancerCore {
-            discovery,
-            served,
-            timing,
-        } = made;
-        let ServedParts { served, generator } = served.into_parts();
-        let serving = Serving::with_words(alloc, served, generator)?;
-        let origin = Origin {
-            discovery,
-            config: None,
-            first: serving.served.generation(),
-            view_id: serving.served.view_id(),
-            registry: Arc::new(alloc, HealthRegistry::over(alloc, registry)?)?,
-        };
-        let shared = Balancing::begun(rt, alloc, origin, serving, timing)?;
+        let shared = shared_of(rt, alloc, made, registry)?;
         Ok(LoadBalancer {
             shared,
             owns_checks: true,
@@ -92,4 +81,44 @@ impl<
             parallel_health_check: false,
         })
     }
+}
+
+// What threads share of a balancer that one thread made in this registry.
+fn shared_of<
+    S: BackendSelection,
+    D: ServiceDiscovery + Drop,
+    N: KeyRule + Drop,
+    C: HealthCheck + Drop,
+    W: Wait,
+>(
+    rt: &W,
+    alloc: Global,
+    made: LoadBalancerCore<S, Pcg64, D>,
+    registry: Registry<Rule<N>>,
+) -> Result<Balancing<S, D, Rule<N>, C>, Refusal>
+    requires config { made.served.config ≡ S.default_config }
+    requires view { (views : List ViewEvent) × IsViewAfter views made.served.view
+        × AreDiscovered made.discovery (generation_after views) (membership_after views) }
+    ensures made { IfOk result (λ b. (b.discovery ≡ made.discovery) × (b.config ≡ S.default_config)
+        × (b.view_id ≡ made.served.view.id) × (b.registry ≡ registry)) }
+    ensures first { (views : List ViewEvent) → IsViewAfter views made.served.view
+        → IfOk result (λ b. b.first ≡ generation_after views) }
+    ensures refused { IfErr result (λ e. e ≡ Refusal.OutOfMemory) }
+{
+    let LoadBalancerCore {
+        discovery,
+        served,
+        timing,
+    } = made;
+    let ServedParts { served, generator } = served.into_parts();
+    let serving = Serving::with_words(alloc, served, generator)?;
+    let origin = Origin {
+        discovery,
+        config: None,
+        first: serving.served.generation(),
+        view_id: serving.served.view_id(),
+        registry: Arc::new(alloc, HealthRegistry::over(alloc, registry)?)?,
+    };
+    let shared = Balancing::begun(rt, alloc, origin, serving, timing)?;
+    Ok(shared)
 }
