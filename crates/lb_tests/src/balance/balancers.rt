@@ -25,7 +25,6 @@ use std::alloc::Global;
 use std::cell::Cell;
 use std::collections::BTreeSet;
 use std::process::Abort;
-use std::test::Fail;
 
 /// A discovery whose answer goes on with each call: one backend, too many for a selector, a fault, the first one with something else
 /// attached, and then two.
@@ -165,10 +164,7 @@ fn answer<S: BackendSelection, D: ServiceDiscovery + Drop>(
     match call {
         Call::Update(moments) => update(alloc, balancer, registry, moments),
         Call::SelectsFirst => selects_first(alloc, balancer, registry),
-        Call::Selects(limit, wanted) => {
-            let found = balancer.select(alloc, registry, b"k", limit)?;
-            Ok(Told::Flag(is_at(alloc, &found, wanted)?))
-        }
+        Call::Selects(limit, wanted) => selects(alloc, balancer, registry, limit, wanted),
         Call::LastTiming => Ok(Told::Took(balancer.last_update_timing())),
         Call::ServedGeneration => Ok(Told::Number(balancer.backend_generation())),
         Call::Leave => {
@@ -182,11 +178,32 @@ fn answer<S: BackendSelection, D: ServiceDiscovery + Drop>(
         Call::IsReady(address)
         | Call::SelectsAny(address)
         | Call::SetLoad(address, _)
-        | Call::Disable(address) => {
-            let backend = Backend::new(alloc, address)?;
-            answer_of(alloc, balancer, registry, call, &backend)
-        }
+        | Call::Disable(address) => answer_at(alloc, balancer, registry, call, address),
     }
+}
+
+// Selects of so many candidates; whether that is the backend at this address.
+fn selects<S: BackendSelection, D: ServiceDiscovery + Drop>(
+    alloc: Global,
+    balancer: &mut Balancer<S, D>,
+    registry: &RegistryCore,
+    limit: usize,
+    wanted: Option<&'static str>,
+) -> Answer {
+    let found = balancer.select(alloc, registry, b"k", limit)?;
+    Ok(Told::Flag(is_at(alloc, &found, wanted)?))
+}
+
+// Makes a call of the backend at an address.
+fn answer_at<S: BackendSelection, D: ServiceDiscovery + Drop>(
+    alloc: Global,
+    balancer: &mut Balancer<S, D>,
+    registry: &mut RegistryCore,
+    call: Call,
+    address: &'static str,
+) -> Answer {
+    let backend = Backend::new(alloc, address)?;
+    answer_of(alloc, balancer, registry, call, &backend)
 }
 
 // Makes a call of the borrowed backends.
@@ -332,23 +349,23 @@ const OF_TEXTS: Calls = &[
 ];
 
 #[test]
-fn a_balancer_of_texts(rt: HostRuntime) -> Result<(), Fail> {
+fn a_balancer_of_texts(rt: HostRuntime) {
     let alloc = rt.alloc();
     let texts = ["1.1.1.1:80", "1.0.0.1:80"];
     let mut clock = Moments {
         left: &[0, 10, 14, 20],
     };
     let mut registry = RegistryCore::new(alloc);
-    let mut balancer: Balancer<LeastConnections, Rows> = LoadBalancerCore::try_from_iter(
+    let balancer = LoadBalancerCore::try_from_iter(
         alloc,
         &mut registry,
         &rt,
         texts.iter().copied(),
         &mut clock,
         Pcg64::new(1, 2),
-    )?;
+    );
+    let mut balancer: Balancer<LeastConnections, Rows> = balancer.expect(&rt, "refused");
     plays(alloc, &mut balancer, &mut registry, OF_TEXTS, &rt);
-    Ok(())
 }
 
 // After the first update its generation and its backend are served, whatever the later ones answer.
@@ -396,16 +413,16 @@ const OF_ROWS: Calls = &[
 ];
 
 #[test]
-fn updates_by_rows(rt: HostRuntime) -> Result<(), Fail> {
+fn updates_by_rows(rt: HostRuntime) {
     let alloc = rt.alloc();
     let mut registry = RegistryCore::new(alloc);
-    let mut balancer: Balancer<Random, Rows> = LoadBalancerCore::from_backends_with_config(
+    let balancer = LoadBalancerCore::from_backends_with_config(
         alloc,
         &mut registry,
         DiscoverySource::Boxed(Rows::from(0)),
         Some(()),
         Pcg64::new(3, 4),
-    )?;
+    );
+    let mut balancer: Balancer<Random, Rows> = balancer.expect(&rt, "refused");
     plays(alloc, &mut balancer, &mut registry, OF_ROWS, &rt);
-    Ok(())
 }

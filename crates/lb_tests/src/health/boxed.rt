@@ -17,7 +17,6 @@ use std::alloc::Global;
 use std::sync::Arc;
 use std::sync::atomic::AtomicU64;
 use std::sync::atomic::Ordering::SeqCst;
-use std::test::Fail;
 
 // An observer that adds 1 for each backend of weight 7 that became unhealthy, and 10 for any other report.
 #[derive(Drop)]
@@ -61,19 +60,19 @@ fn checked_in(
 
 // Where nobody listens, what the discovery found becomes unhealthy, and the observer is told so once.
 #[test]
-fn boxes_are_called(rt: HostRuntime) -> Result<(), Fail> {
+fn boxes_are_called(rt: HostRuntime) {
     let alloc = rt.alloc();
-    let told = Arc::new(alloc, AtomicU64::new(0))?;
+    let told = Arc::new(alloc, AtomicU64::new(0)).expect(&rt, "refused");
     let adds = Adds {
-        told: Arc::try_clone(&told)?,
+        told: Arc::try_clone(&told).expect(&rt, "refused"),
     };
-    let observer: HealthObserveCallback = Box::new(alloc, adds)?;
+    let observer: HealthObserveCallback = Box::new(alloc, adds).expect(&rt, "refused");
     let check = TcpHealthCheck::new(rt).with_callbacks(Some(observer), IdentitySummary);
-    let found = Static::new(set_of(alloc, &[("127.0.0.1:1", 7)])?);
-    let found: BoxedDiscovery = Box::new(alloc, found)?;
+    let found = set_of(alloc, &[("127.0.0.1:1", 7)]).expect(&rt, "refused");
+    let found: BoxedDiscovery = Box::new(alloc, Static::new(found)).expect(&rt, "refused");
     let source = DiscoverySource::Boxed(found);
     let ready = checked(alloc, &source, &check, &rt);
-    let plain: BoxedCheck = Box::new(alloc, TcpHealthCheck::new(rt))?;
+    let plain: BoxedCheck = Box::new(alloc, TcpHealthCheck::new(rt)).expect(&rt, "refused");
     let ready = [ready, checked(alloc, &source, &plain, &rt)];
     assert_same(
         &rt,
@@ -81,5 +80,4 @@ fn boxes_are_called(rt: HostRuntime) -> Result<(), Fail> {
         &([Ok([true, false]); 2], 1),
         &"what is boxed",
     );
-    Ok(())
 }

@@ -19,7 +19,6 @@ use std::cell::Cell;
 use std::collections::BTreeSet;
 use std::process::Abort;
 use std::rc::Rc;
-use std::test::Fail;
 
 /// How often a check was asked, and which reports it got, each as one more digit: 1 of a backend that became healthy, and 2 of one that
 /// didn't; whether it finds 1.0.0.1:80/1 down, and whether discoveries answer a fault.
@@ -365,13 +364,14 @@ fn last_byte(backend: &Backend) -> u64 {
 
 // Two views whose backends have one number, by a rule of the caller's, have one target, which is checked once. Each has flags of its own.
 #[test]
-fn views_share_by_number(rt: HostRuntime) -> Result<(), Fail> {
+fn views_share_by_number(rt: HostRuntime) {
     let alloc = rt.alloc();
-    let counts = new_counts(alloc)?;
-    let number: Number = Box::new(alloc, |backend: &Backend| last_byte(backend))?;
+    let counts = new_counts(alloc).expect(&rt, "refused");
+    let number: Number = Box::new(alloc, |backend: &Backend| last_byte(backend)).expect(
+        &rt, "refused",
+    );
     let mut registry = RegistryCore::with_equivalence(alloc, ByNumber::new(number));
     let found = shared_and_asked(alloc, &mut registry, &counts, &rt);
     let wanted = ((Ok(1), Ok(()), [true, true, false, true]), 1);
     assert_same(&rt, &found, &Ok(wanted), &"views share by number");
-    Ok(())
 }

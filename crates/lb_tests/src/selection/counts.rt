@@ -15,7 +15,6 @@ use std::alloc::Global;
 use std::cell::Cell;
 use std::ops::Range;
 use std::sync::Arc;
-use std::test::Fail;
 
 /// A source of words that notes each load that is read of it.
 #[derive(Drop)]
@@ -152,11 +151,10 @@ fn three_weights(alloc: Global) -> Result<Arc<RoundRobin>, Refusal> {
 }
 
 #[test]
-fn each_candidate_is_asked_about_once(rt: HostRuntime) -> Result<(), Fail> {
-    let selector = three_weights(rt.alloc())?;
+fn each_candidate_is_asked_about_once(rt: HostRuntime) {
+    let selector = three_weights(rt.alloc()).expect(&rt, "refused");
     for (ticket, limit, accepted, wanted) in ASKS {
         let found = asked(rt.alloc(), &selector, *ticket, *limit, accepted);
         assert_same(&rt, &found, &Ok(*wanted), &(*ticket, *limit));
     }
-    Ok(())
 }

@@ -15,7 +15,6 @@ use lb_select_base::refusal::Refusal;
 use std::alloc::Global;
 use std::sync::Arc;
 use std::sync::atomic::{AtomicU64, Ordering};
-use std::test::Fail;
 
 // Builds and publishes what slot 0 needs next; whether the gate granted it.
 fn granted(alloc: Global, group: &mut Slots<Noting>, gate: &mut GateCore) -> Result<bool, Refusal>
@@ -92,8 +91,7 @@ fn course_of_new(alloc: Global, gone: &Arc<AtomicU64>) -> Result<Course, Refusal
 }
 
 #[test]
-fn gone_before_the_report(rt: HostRuntime) -> Result<(), Fail> {
-    let gone = Arc::new(rt.alloc(), AtomicU64::new(0))?;
+fn gone_before_the_report(rt: HostRuntime) {
+    let gone = Arc::new(rt.alloc(), AtomicU64::new(0)).expect(&rt, "refused");
     assert!(rt; course_of_new(rt.alloc(), &gone) == Ok(WANTED));
-    Ok(())
 }
