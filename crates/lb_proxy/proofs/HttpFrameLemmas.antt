@@ -203,14 +203,20 @@ size_bad count value b fails other also text r =
     by (inl e) = other e
     by (inr e) = also e
 
+-- two texts that begin with the same byte go on in the same way
+tail_same : (b : ℕ) (text rest : List ℕ) → b ∷ text ≡ b ∷ rest → rest ≡ text
+tail_same b text rest is = cc
+
+no_semicolon : (text rest : List ℕ) → 13 ∷ text ≡ 59 ∷ rest → ⊥
+no_semicolon text rest is = cc
+
 ends_return_back : (Q : List ℕ → Type 0) (text : List ℕ) → Ends Q (13 ∷ text) → Feed Q text
-ends_return_back Q text (inl e) = let is = e.1 in let same : e.0 ≡ text = cc in subst (λ (l : List ℕ). Feed Q l) same e.2
-ends_return_back Q text (inr e) = let is : 13 ∷ text ≡ 59 ∷ e.0 = e.1 in absurd (cc)
+ends_return_back Q text (inl e) = subst (λ (l : List ℕ). Feed Q l) (tail_same 13 text e.0 e.1) e.2
+ends_return_back Q text (inr e) = absurd (no_semicolon text e.0 e.1)
 
 ends_semicolon_back : (Q : List ℕ → Type 0) (text : List ℕ) → Ends Q (59 ∷ text) → InExtension Q 4096 text
-ends_semicolon_back Q text (inl e) = let is : 59 ∷ text ≡ 13 ∷ e.0 = e.1 in absurd (cc)
-ends_semicolon_back Q text (inr e) =
-    let is = e.1 in let same : e.0 ≡ text = cc in subst (λ (l : List ℕ). InExtension Q 4096 l) same e.2
+ends_semicolon_back Q text (inl e) = absurd (no_semicolon e.0 text (sym e.1))
+ends_semicolon_back Q text (inr e) = subst (λ (l : List ℕ). InExtension Q 4096 l) (tail_same 59 text e.0 e.1) e.2
 
 pub size_return : (count value : ℕ) → 0 < count → value < 2 ^ 64 → Follows (F.Size count value) 13 (P.Framed (F.SizeFeed value))
 size_return count value some small text = (
