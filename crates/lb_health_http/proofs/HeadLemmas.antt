@@ -118,15 +118,22 @@ reads_with_blank ends bytes h rest reads = (
   ap (λ (l : List ℕ). print_blank ends ++ l) reads.1 ∙ sym (print-with_blank ends h rest),
 )
 
+-- texts that are the same begin with the same byte, and go on in the same way
+first_same : (x y : ℕ) (xs ys : List ℕ) → x ∷ xs ≡ y ∷ ys → x ≡ y
+first_same x y xs ys e = cc
+
+rest_same : (x y : ℕ) (xs ys : List ℕ) → x ∷ xs ≡ y ∷ ys → xs ≡ ys
+rest_same x y xs ys e = cc
+
 -- an empty line in front of a start line is one of the head's
 peel_end : (e : LineEnd) (bytes : List ℕ) (bs : List LineEnd) (t : List ℕ) → print_end e ++ bytes ≡ print_blank bs ++ 72 ∷ t
     → (cs : List LineEnd) × (bytes ≡ print_blank cs ++ 72 ∷ t)
-peel_end lf bytes [] t e = absurd (cc)
-peel_end crlf bytes [] t e = absurd (cc)
-peel_end lf bytes (lf ∷ bs) t e = (bs, cc)
-peel_end lf bytes (crlf ∷ bs) t e = absurd (cc)
-peel_end crlf bytes (lf ∷ bs) t e = absurd (cc)
-peel_end crlf bytes (crlf ∷ bs) t e = (bs, cc)
+peel_end lf bytes [] t e = absurd (omega (arith, first_same 10 72 _ _ e))
+peel_end crlf bytes [] t e = absurd (omega (arith, first_same 13 72 _ _ e))
+peel_end lf bytes (lf ∷ bs) t e = (bs, rest_same 10 10 _ _ e)
+peel_end lf bytes (crlf ∷ bs) t e = absurd (omega (arith, first_same 10 13 _ _ e))
+peel_end crlf bytes (lf ∷ bs) t e = absurd (omega (arith, first_same 13 10 _ _ e))
+peel_end crlf bytes (crlf ∷ bs) t e = (bs, rest_same 10 10 _ _ (rest_same 13 13 _ _ e))
 
 -- the head without empty lines in front
 pub record Unblank (bytes : List ℕ) (h : ResponseHead) (rest : List ℕ) : Type 0 where
