@@ -1,7 +1,7 @@
 #!/bin/bash
-# What `lbcheck` prints and how it ends, for answers on its standard input, for arguments, and for hostile servers: each case by
-# `rt try`, which builds the program once and proves nothing (about a minute). Where a proved program is there, or LBCHECK names one,
-# it is run against the same servers, and its memory is measured. A line for each case; the last line is 'N passed, M failed'.
+# What `lbcheck` prints and how it ends, for answers on its standard input, for arguments, and for hostile servers. Each case is run by the
+# proved program, where one is there or LBCHECK names one; against a server its memory is measured too. Else it is run by `rt try`, which
+# builds the program once and proves nothing (about a minute). A line for each case; the last line is 'N passed, M failed'.
 set -euo pipefail
 unset CDPATH
 
@@ -166,20 +166,21 @@ tell_wrong() {
     [ -z "${within[$1]-}" ] || grep "^${server[$1]} took" "$notes" || true
 }
 
-try_cases "$cases"
-again=()
-for number in "${!names[@]}"; do
-    is_right "$number" '' && continue
-    tell_wrong "$number"
-    if [ -n "${within[number]-}" ]; then
-        again+=("$number")
-    else
-        failed=$((failed + 1))
-    fi
-done
-
-# A case against a server has limits on time, and a busy machine may have been late: it is tried once more, without the others.
-if [ "${#again[@]}" -gt 0 ]; then
+# Runs all cases by a trial build.
+by_trial() {
+    local number again=()
+    try_cases "$cases"
+    for number in "${!names[@]}"; do
+        is_right "$number" '' && continue
+        tell_wrong "$number"
+        if [ -n "${within[number]-}" ]; then
+            again+=("$number")
+        else
+            failed=$((failed + 1))
+        fi
+    done
+    [ "${#again[@]}" -gt 0 ] || return 0
+    # A case against a server has limits on time, and a busy machine may have been late: it is tried once more, without the others.
     mkdir "$room/again"
     for number in "${again[@]}"; do
         cp "$cases/${names[number]}" "$cases/${names[number]}".* "$room/again"
@@ -190,7 +191,7 @@ if [ "${#again[@]}" -gt 0 ]; then
         tell_wrong "$number"
         failed=$((failed + 1))
     done
-fi
+}
 
 # The proved program, if there is one that is newer than its sources.
 proved() {
@@ -203,53 +204,70 @@ proved() {
     )
 }
 
-# NUMBER PROGRAM: runs the case, and notes status, milliseconds, and the most resident memory in KiB that was seen.
+# NUMBER: runs the case by the proved program, and notes status, milliseconds, and the most resident memory in KiB that was seen.
 measure() {
-    local start most=0 now status=0 pid arguments
-    mapfile -t arguments <"$cases/${names[$1]}.args"
+    local start most=0 now status=0 pid arguments name=${names[$1]}
+    mapfile -t arguments <"$cases/$name.args"
     start=$(date +%s%N)
-    "$2" "${arguments[@]}" >"$room/${names[$1]}.output" 2>&1 </dev/null &
+    "$program" "${arguments[@]}" >"$room/$name.output" 2>"$room/$name.faults" <"$cases/$name" &
     pid=$!
-    while [ -e "/proc/$pid/status" ]; do
+    while [ -n "${within[$1]-}" ] && [ -e "/proc/$pid/status" ]; do
         now=$(sed -n 's/^VmHWM:[^0-9]*\([0-9]*\) kB$/\1/p' "/proc/$pid/status" 2>/dev/null) || true
         [ -n "$now" ] || break
         most=$now
         sleep 0.01
     done
     wait "$pid" || status=$?
-    echo "$status $((($(date +%s%N) - start) / 1000000)) $most" >"$room/${names[$1]}.measured"
+    echo "$status $((($(date +%s%N) - start) / 1000000)) $most" >"$room/$name.measured"
 }
 
 # The most resident memory that lbcheck may have, in KiB.
 most_memory=8192
-program=${LBCHECK:-$(proved)}
-if [ ! -x "$program" ]; then
-    echo "memory: not measured, since no proved lbcheck is there"
-else
-    # NUMBER WHICH: counts the case where the proved program did as it should, and says what was measured, with what try it was.
-    is_measured_right() {
-        local name=${names[$1]} status took memory
-        read -r status took memory <"$room/$name.measured"
-        if [ "$status" -eq "${statuses[$1]}" ] && cmp -s "$room/$name.output" "$cases/$name.stdout" &&
-            [ "$took" -le $((within[$1] * 1000)) ] && [ "$memory" -gt 0 ] && [ "$memory" -lt "$most_memory" ]; then
-            echo "$name, proved: as it should be ($took ms, $memory KiB)$2"
-            passed=$((passed + 1))
-        else
-            echo "$name, proved: status $status, $took ms, $memory KiB, said: $(cat "$room/$name.output")"
-            return 1
-        fi
-    }
-    measuring=()
+
+# NUMBER WHICH: counts the case where the proved program did as it should, and says what was measured, with what try it was. Against a
+# server it says nothing on standard error.
+is_measured_right() {
+    local name=${names[$1]} status took memory limits=true what=
+    read -r status took memory <"$room/$name.measured"
+    if [ -n "${within[$1]-}" ]; then
+        what=" ($took ms, $memory KiB)"
+        [ "$took" -le $((within[$1] * 1000)) ] && [ "$memory" -gt 0 ] && [ "$memory" -lt "$most_memory" ] &&
+            [ ! -s "$room/$name.faults" ] || limits=false
+    fi
+    if $limits && [ "$status" -eq "${statuses[$1]}" ] && cmp -s "$room/$name.output" "$cases/$name.stdout"; then
+        echo "$name: as it should be$what$2"
+        passed=$((passed + 1))
+    else
+        echo "$name: status $status, $took ms, $memory KiB, said: $(cat "$room/$name.output" "$room/$name.faults")"
+        return 1
+    fi
+}
+
+# Runs all cases by the proved program: those against servers at once, and one that fails there once more, without the others.
+by_program() {
+    local number measuring=()
     for number in "${!within[@]}"; do
-        measure "$number" "$program" &
+        measure "$number" &
         measuring+=("$!")
     done
     wait "${measuring[@]}"
-    for number in "${!within[@]}"; do
+    for number in "${!names[@]}"; do
+        [ -n "${within[number]-}" ] || measure "$number"
         is_measured_right "$number" '' && continue
-        measure "$number" "$program"
-        is_measured_right "$number" ', at the second try' || failed=$((failed + 1))
+        if [ -n "${within[number]-}" ]; then
+            measure "$number"
+            is_measured_right "$number" ', at the second try' && continue
+        fi
+        failed=$((failed + 1))
     done
+}
+
+program=${LBCHECK:-$(proved)}
+if [ -x "$program" ]; then
+    by_program
+else
+    by_trial
+    echo "memory: not measured, since no proved lbcheck is there"
 fi
 echo "$passed passed, $failed failed"
 [ "$failed" -eq 0 ]

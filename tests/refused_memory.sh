@@ -54,17 +54,18 @@ def renumbered(answer, missing):
     return b" ".join((words[0], b"%d" % (int(words[1]) + missing), *words[2:]))
 
 
-def goes_on(lines, at, rest):
-    """Whether the rest answers the lines after that one as the yardstick does."""
-    for stand_in in instead(lines[at]):
-        answers = written(PLAIN, lines[:at] + stand_in + lines[at + 1:])
-        if [renumbered(line, 1 - len(stand_in)) for line in answers[at + len(stand_in):]] == rest:
-            return True
-    return False
+def yardstick(lines, at, known):
+    """What the yardstick answers to the lines after that one, for each stand-in of it. A line has several requests: they share it."""
+    if at not in known:
+        known[at] = []
+        for stand_in in instead(lines[at]):
+            answers = written(PLAIN, lines[:at] + stand_in + lines[at + 1:])
+            known[at].append([renumbered(line, 1 - len(stand_in)) for line in answers[at + len(stand_in):]])
+    return known[at]
 
 
-def is_right(lines, answers, got):
-    """Whether this may be written for the lines, whose worked answers are given."""
+def is_right(lines, answers, got, known):
+    """Whether this may be written for the lines, whose worked answers are given, and what the yardstick answered so far."""
     same = 0
     while same < min(len(got), len(answers)) and got[same] == answers[same]:
         same += 1
@@ -77,7 +78,7 @@ def is_right(lines, answers, got):
         return len(got) == same + 1
     words = line.split(b" ")
     refused = line == b"refused 10 OutOfMemory" or (words[0] == b"failed" and words[2:] == [b"10", b"OutOfMemory"])
-    return refused and goes_on(lines, same, got[same + 1:])
+    return refused and got[same + 1:] in yardstick(lines, same, known)
 
 
 def row(name):
@@ -92,7 +93,8 @@ def row(name):
         return f"{name}: other answers with all memory", False
     with open(counted) as source:
         requests = int(source.read())
-    wrong = [number for number in range(1, requests + 1) if not is_right(lines, answers, written(LBSIM, lines, number))]
+    known = {}
+    wrong = [number for number in range(1, requests + 1) if not is_right(lines, answers, written(LBSIM, lines, number), known)]
     told = f"wrong where request {wrong[:5]} is refused" if wrong else "as it should be"
     return f"{name}: {requests} requests, {told}", not wrong
 
