@@ -445,9 +445,7 @@ impl ViewCore {
             return Err(Refusal::NumbersExhausted);
         }
         self.earlier.reserve(1)?;
-        flag_all(&mut self.flags, &members)?;
-        let copy = copied(&members)?;
-        let members = Arc::new(alloc, members)?;
+        let (members, copy) = prepared(alloc, &mut self.flags, members)?;
         // The last that may be refused.
         let cells = registry.show_view(alloc, self.id, next, copy)?;
         let hinted = Cells::new(alloc, cells);
@@ -538,6 +536,23 @@ fn copied(members: &BTreeSet<Backend>) -> Result<BTreeSet<Backend>, Refusal>
 {
     let copy = members.clone()?;
     Ok(copy)
+}
+
+// Gives each member a flag. Returns the membership, shared, and the same members once more.
+fn prepared(
+    alloc: Global,
+    flags: &mut BTreeMap<Backend, bool>,
+    members: BTreeSet<Backend>,
+) -> Result<(Arc<BTreeSet<Backend>>, BTreeSet<Backend>), Refusal>
+    ensures flags { (q : Member) → Flags flags.old.entries flags.new.entries q }
+    ensures all { OnOk result ((q : Member) → list_any (same_member q) members.keys ≡ true → IsSome (value_at flags.new.entries q)) }
+    ensures ok { IfOk result (λ both. ((arc_value both.0).keys ≡ members.keys) × (both.1.keys ≡ members.keys)) }
+    ensures refused { OnErr result (result ≡ Err Refusal.OutOfMemory) }
+{
+    flag_all(flags, &members)?;
+    let copy = copied(&members)?;
+    let shared = Arc::new(alloc, members)?;
+    Ok((shared, copy))
 }
 
 // Whether the cell that a snapshot has for a backend is kept and healthy.

@@ -1,4 +1,4 @@
-use Rattle.std.proofs.Common.{◌≡◌, ◌∙◌, Some, IfSome, sym, ap, rules}
+use Rattle.std.proofs.Common.{◌≡◌, ◌∙◌, IfSome, sym, ap, rules}
 use Rattle.std.proofs.lemmas.List.Elements.{All-set}
 use Rattle.lb_select_base.specs.Backends.{Address, ipv4}
 use Rattle.lb_select_base.specs.Seen.{address_seen}

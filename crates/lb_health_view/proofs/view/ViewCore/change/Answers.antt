@@ -25,39 +25,11 @@ still :
 still r now before after is g s flags =
     on_err r (λ (views : List ViewEvent) h. roomier views before after (subst (λ v. IsViewAfter views v) (sym is) h) g s flags)
 
-pub returns-in_err-flag_all-clause-refusals : goal.returns-in_err-flag_all-clause-refusals
-returns-in_err-flag_all-clause-refusals g c = record {
-  view_err = still _ c.args.self.now _ _ c.self.view_is refl
-      (ap (λ (ss : List ViewSnapshot). snapshot_of c.self.inside.current ∷ map snapshot_of ss) c.reserve.ensures.items)
-      c.flag_all.ensures.flags;
-  registry_err = search rules;
-  exhausted = search rules;
-  last = search rules;
-  registry = search rules;
-  refused = search rules;
-  id = search rules;
-  one_registry = search rules;
-}
-
-pub returns-in_err-copy-clause-refusals : goal.returns-in_err-copy-clause-refusals
-returns-in_err-copy-clause-refusals g c = record {
-  view_err = still _ c.args.self.now _ _ c.self.view_is refl
-      (ap (λ (ss : List ViewSnapshot). snapshot_of c.self.inside.current ∷ map snapshot_of ss) c.reserve.ensures.items)
-      c.flag_all.ensures.flags;
-  registry_err = search rules;
-  exhausted = search rules;
-  last = search rules;
-  registry = search rules;
-  refused = search rules;
-  id = search rules;
-  one_registry = search rules;
-}
-
 pub returns-in_err-members-clause-refusals : goal.returns-in_err-members-clause-refusals
 returns-in_err-members-clause-refusals g c = record {
   view_err = still _ c.args.self.now _ _ c.self.view_is refl
       (ap (λ (ss : List ViewSnapshot). snapshot_of c.self.inside.current ∷ map snapshot_of ss) c.reserve.ensures.items)
-      c.flag_all.ensures.flags;
+      c.prepared.ensures.flags;
   registry_err = search rules;
   exhausted = search rules;
   last = search rules;
@@ -71,7 +43,7 @@ pub returns-in_err-cells-clause-refusals : goal.returns-in_err-cells-clause-refu
 returns-in_err-cells-clause-refusals g c = record {
   view_err = still _ c.args.self.now _ _ c.self.view_is refl
       (ap (λ (ss : List ViewSnapshot). snapshot_of c.self.inside.current ∷ map snapshot_of ss) c.reserve.ensures.items)
-      c.flag_all.ensures.flags;
+      c.prepared.ensures.flags;
   registry_err = search rules;
   exhausted = search rules;
   last = search rules;
@@ -90,10 +62,10 @@ returns-clause-some g c = (
         id = c.self.inside.id;
         generation = c.self.inside.current.generation;
         snapshots = snapshot_of c.self.inside.current ∷ map snapshot_of c.reserve.new.self.items;
-        flags = c.flag_all.new.flags.entries;
+        flags = c.prepared.new.flags.entries;
       })
       before refl (ap (λ (ss : List ViewSnapshot). snapshot_of c.self.inside.current ∷ map snapshot_of ss) c.reserve.ensures.items)
-      c.flag_all.ensures.flags in
+      c.prepared.ensures.flags in
       let n : ℕ = c.in-Some.next in
       let next : n ≡ c.self.inside.current.generation + 1 = c.in-Some.ensures.1 in
       let new : ViewSnapshot = record {
@@ -106,10 +78,10 @@ returns-clause-some g c = (
       ∙ ap (λ (cs : List (Member × ℕ)). record new { cells = cs }) c.new-hinted.ensures in
       let items : c.push_reserved.new.self.items ≡ c.reserve.new.self.items ++ c.self.inside.current ∷ [] = c.push_reserved.ensures.items
       ∙ ap (λ (s : ViewSnapshot). c.reserve.new.self.items ++ s ∷ []) c.replace.ensures.value in
-      let members : (arc_value c.in_ok-members.members).keys ≡ c.args.members.keys = ap (λ s. s.keys) c.in_ok-members.ensures.ok in
+      let members : (arc_value c.in_ok-members.members).keys ≡ c.args.members.keys = c.in_ok-members.ensures.ok.0 in
       let others : List SnapshotValue = by_age (snapshot_of c.self.inside.current ∷ map snapshot_of c.reserve.new.self.items) in
       shown views _ c.prune.new.self c.args.members.keys _ prepared
-      c.in_ok-flag_all.ensures.all
+      c.in_ok-members.ensures.all
       (c.prune.ensures.generation ∙ ap (λ (s : ViewSnapshot). s.generation) after ∙ next)
       (c.prune.ensures.snapshots
       ∙ ap (λ (s : ViewSnapshot). living s.generation (snapshot_of s ∷ map snapshot_of c.push_reserved.new.self.items)) after
@@ -125,7 +97,7 @@ unfolding returns-clause-some
 returns-clause-view g c = λ key_of views events h r.
     let cells : c.in_ok-cells.cells.entries ≡ shown_cells key_of c.args.self.now.id c.args.members.keys events =
     c.in_ok-cells.ensures.cells key_of events r
-    ∙ ap (λ ms. shown_cells key_of c.self.inside.id ms events) c.in_ok-copy.ensures.ok
+    ∙ ap (λ ms. shown_cells key_of c.self.inside.id ms events) c.in_ok-members.ensures.ok.1
     ∙ ap (λ (v : ViewValue). shown_cells key_of v.id c.args.members.keys events) c.self.view_is in
     subst (λ cs. IsViewAfter (Shown c.args.members.keys cs ∷ views) c.prune.new.self) cells ((returns-clause-some g c).1 views h)
 
@@ -143,7 +115,7 @@ returns-clause-registry g c = λ key_of views events h r.
     (subst (λ n. IsRegistryAfter g.R.KeyRule.gives key_of (after_show c.self.inside.id n c.args.members.keys events) c.show_view.new.self)
     next
     (subst (λ ms. IsRegistryAfter g.R.KeyRule.gives key_of (after_show c.self.inside.id c.in-Some.next ms events) c.show_view.new.self)
-    c.in_ok-copy.ensures.ok
+    c.in_ok-members.ensures.ok.1
     (c.in_ok-cells.ensures.ok key_of events r))) in
     let lived : c.lives.result ≡ lives (generation_after views)
     (snapshots_after (view_changed key_of c.args.self.now.id c.args.members.keys events views)) =
@@ -178,14 +150,14 @@ invariant_of-self-2 g c =
     } in
     let after : c.replace.new.dest ≡ new = c.replace.ensures.after
     ∙ ap (λ (cs : List (Member × ℕ)). record new { cells = cs }) c.new-hinted.ensures in
-    let members : (arc_value c.in_ok-members.members).keys ≡ c.args.members.keys = ap (λ s. s.keys) c.in_ok-members.ensures.ok in
+    let members : (arc_value c.in_ok-members.members).keys ≡ c.args.members.keys = c.in_ok-members.ensures.ok.0 in
     let items : c.push_reserved.new.self.items ≡ c.self.inside.earlier.items ++ current ∷ [] = c.push_reserved.ensures.items
     ∙ ap (λ (s : ViewSnapshot). c.reserve.new.self.items ++ s ∷ []) c.replace.ensures.value
     ∙ ap (λ (ss : List ViewSnapshot). ss ++ current ∷ []) c.reserve.ensures.items in (
-      flags-more c.self.inside.disabled c.self.inside.flags.entries _ c.self.invariant.0 c.flag_all.ensures.flags,
+      flags-more c.self.inside.disabled c.self.inside.flags.entries _ c.self.invariant.0 c.prepared.ensures.flags,
       (
         subst (λ (s : ViewSnapshot). HasOwnCells (snapshot_of s).members (snapshot_of s).cells) (sym after)
-            (subst (λ (ms : List Member). HasOwnCells ms c.in_ok-cells.cells.entries) (c.in_ok-copy.ensures.ok
+            (subst (λ (ms : List Member). HasOwnCells ms c.in_ok-cells.cells.entries) (c.in_ok-members.ensures.ok.1
             ∙ sym members) c.in_ok-cells.ensures.own),
         subst (λ (ss : List ViewSnapshot). HaveOwnCells (map snapshot_of ss)) (sym items)
             (own-behind c.self.inside.earlier.items current c.self.invariant.1.1 c.self.invariant.1.0),
