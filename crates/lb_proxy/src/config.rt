@@ -4,7 +4,7 @@ ghost use Rattle.std.specs.List.{AllByRecursion};
 ghost use Rattle.std.specs.Result.{result_map_both};
 ghost use Rattle.lb_proxy.specs.Config.{part_of, said, selection_of, selection_in, IsPoolNamed, IsListen, IsBackend, AreBackends};
 ghost use Rattle.lb_proxy.specs.Config.{IsWeighed, IsSource, IsPool, ArePools, HaveOwnNames, AreListens, IsStatus, IsConfig};
-ghost use Rattle.lb_proxy.specs.Config.{IsCheck, IsCheckIn, IsKind, AreLimitsIn, begins_with_slash};
+ghost use Rattle.lb_proxy.specs.Config.{IsCheck, IsCheckIn, IsKind, AreLimits, AreLimitsIn, begins_with_slash};
 ghost use Rattle.lb_proxy.specs.Faults.{IsWrong, IsWrongInside, IsWrongCheck, IsWrongKind, IsWrongStatus, IsWrongLimits, IsWrongWord};
 ghost use Rattle.lb_proxy.specs.Faults.{IsWrongBackend, AreWrongBackends, IsWrongSource, IsWrongPool, AreWrongPools};
 ghost use Rattle.lb_proxy.specs.Faults.{IsWrongListen, AreWrongListens};
@@ -247,16 +247,24 @@ fn read_limits<'t>(top: &Section<'t>) -> Result<Limits, Fault<'t>>
     ensures spelled { IfOk result (AreLimitsIn (part_of top.now)) }
     ensures fault { IfErr result (λ f. IsWrongInside IsWrongLimits (part_of top.now) (codes "limits") LimitsPlace (said f)) }
 {
-    let Some(section) = top.table("limits", Place::Limits)? else {
-        return Ok(Limits {
+    match top.table("limits", Place::Limits)? {
+        Some(section) => limits_of(&section),
+        None => Ok(Limits {
             max_connections: 10_000,
             threads: 0,
             connect: 1_000_000_000,
             idle: 300_000_000_000,
             answer: 60_000_000_000,
             drain: 10_000_000_000,
-        });
-    };
+        }),
+    }
+}
+
+// The limits of their section.
+fn limits_of<'t>(section: &Section<'t>) -> Result<Limits, Fault<'t>>
+    ensures spelled { IfOk result (AreLimits (part_of section.now)) }
+    ensures fault { IfErr result (λ f. IsWrongLimits (part_of section.now) (said f)) }
+{
     section.only(&[
         "max_connections",
         "threads",
