@@ -54,14 +54,15 @@ def renumbered(answer, missing):
     return b" ".join((words[0], b"%d" % (int(words[1]) + missing), *words[2:]))
 
 
-def yardstick(lines, at, known):
-    """What the yardstick answers to the lines after that one, for each stand-in of it. A line has several requests: they share it."""
-    if at not in known:
-        known[at] = []
-        for stand_in in instead(lines[at]):
+def goes_on(lines, at, rest, known):
+    """Whether the rest answers the lines after that one as the yardstick does. It is asked once for each stand-in of a line."""
+    for number, stand_in in enumerate(instead(lines[at])):
+        if (at, number) not in known:
             answers = written(PLAIN, lines[:at] + stand_in + lines[at + 1:])
-            known[at].append([renumbered(line, 1 - len(stand_in)) for line in answers[at + len(stand_in):]])
-    return known[at]
+            known[at, number] = [renumbered(line, 1 - len(stand_in)) for line in answers[at + len(stand_in):]]
+        if known[at, number] == rest:
+            return True
+    return False
 
 
 def is_right(lines, answers, got, known):
@@ -78,7 +79,7 @@ def is_right(lines, answers, got, known):
         return len(got) == same + 1
     words = line.split(b" ")
     refused = line == b"refused 10 OutOfMemory" or (words[0] == b"failed" and words[2:] == [b"10", b"OutOfMemory"])
-    return refused and got[same + 1:] in yardstick(lines, same, known)
+    return refused and goes_on(lines, same, got[same + 1:], known)
 
 
 def row(name):
