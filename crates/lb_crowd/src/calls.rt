@@ -116,11 +116,6 @@ pub trait ByPasses {
     fn pass(&self) -> GroupPass
         ensures { result.board ≡ board self.now };
 
-    /// Returns the newest generation, and what a slot serves, which is read before it.
-    fn reads(&self, slot: usize, pass: &mut GroupPass) -> (u64, Option<u64>)
-        requires { pass.old.board ≡ board self.now }
-        ensures { pass.new.board ≡ board self.now };
-
     /// Joins what two passes have seen.
     fn meet<W: Wait>(&self, rt: &W, pass: &mut GroupPass, other: &mut GroupPass)
         requires pass { pass.old.board ≡ board self.now }
@@ -131,6 +126,11 @@ pub trait ByPasses {
 
 /// A group that threads share, with passes over it.
 pub trait GroupByPasses: AskedGroup + ByPasses {
+    /// Returns the newest generation, and what a slot serves, which is read before it.
+    fn reads(&self, slot: usize, pass: &mut GroupPass) -> (u64, Option<u64>)
+        requires { pass.old.board ≡ Self.board self.now }
+        ensures { pass.new.board ≡ Self.board self.now };
+
     /// Updates the group to what is found, and has the pass see the newest generation, which is returned.
     ///
     /// # Errors
@@ -249,38 +249,39 @@ pub trait AskedHandle {
     ) -> HandleAnswer;
 }
 
+/// A call of a group's handle that goes with a pass.
+#[derive(Clone, Copy)]
+pub enum HandlePassCall {
+    /// Updates the group, and has the pass see the newest generation, which is returned.
+    Update,
+    /// The newest generation, and what a slot serves, which is read before it.
+    Read(usize),
+    /// Whether each slot serves that generation or a later one, as the pass reads it.
+    AreReadyFor(u64),
+    /// Enters slot 0 as a reader, selects by it and leaves; the generation that it entered, and its first candidate.
+    Visit,
+}
+
+/// What a call of a handle that goes with a pass answers.
+#[derive(Drop)]
+pub enum HandlePassAnswer {
+    Generation(Result<u64, Refusal>),
+    Read(u64, Option<u64>),
+    Ready(bool),
+    Visited(Result<(u64, Option<Backend>), Refusal>),
+}
+
 /// The handle of a group, with passes.
 pub trait HandleByPasses: AskedHandle + ByPasses {
-    /// Updates the group, and has the pass see the newest generation, which is returned.
-    ///
-    /// # Errors
-    ///
-    /// Those of `LoadBalancerGroup::update`.
-    fn update_as<W: Wait, K: MomentSource>(
+    /// Makes a call that goes with a pass, by this clock where it takes one.
+    fn ask_as<W: Wait, K: MomentSource>(
         &self,
         rt: &W,
         alloc: Global,
+        call: HandlePassCall,
         clock: &mut K,
         pass: &mut GroupPass,
-    ) -> Result<u64, Refusal>
+    ) -> HandlePassAnswer
         requires { pass.old.board ≡ Self.board self.now }
         ensures { pass.new.board ≡ Self.board self.now };
-
-    /// Returns whether each slot serves this generation or a later one, as a pass reads it.
-    fn selectors_ready_for_as(&self, generation: u64, pass: &mut GroupPass) -> bool
-        requires { pass.old.board ≡ Self.board self.now }
-        ensures { pass.new.board ≡ Self.board self.now };
-
-    /// Enters slot 0 as a reader, selects by it and leaves. Returns the generation that it entered, and its first candidate.
-    ///
-    /// # Errors
-    ///
-    /// Those of `LoadBalancerGroup::enter_as` and of `select_in`.
-    fn visit<W: Wait>(
-        &self,
-        rt: &W,
-        alloc: Global,
-        pass: &mut GroupPass,
-    ) -> Result<(u64, Option<Backend>), Refusal>
-        requires { pass.old.board ≡ Self.board self.now };
 }

@@ -10,7 +10,7 @@ use lb_balancer_group::group::LoadBalancerGroup;
 use lb_health_core::error::CheckError;
 use lb_health_core::health_check::HealthCheck;
 use lb_health_core::keys::{KeyRule, Rule};
-use lb_health_view::discovery::{DiscoverySource, Static};
+use lb_health_view::discovery::{DiscoverySource, ServiceDiscovery, Static};
 use lb_rebuild::board::GroupPass;
 use lb_select_base::backend::Backend;
 use lb_select_base::moments::MomentSource;
@@ -45,10 +45,7 @@ impl HealthCheck for NoCheck {
     }
 }
 
-/// A group whose selectors are counted.
-pub type Group<W> = SharedGroup<Configured<Counted<W>>, Rule<NoRule>, NoCheck>;
-
-/// The handle of such a group.
+/// The handle of a group whose selectors are counted.
 pub type Handle<W> = LoadBalancerGroup<Counted<W>, Static, Rule<NoRule>, NoCheck>;
 
 /// The registry of such groups. The caller makes it, since a function that made one would hide its boxed rule.
@@ -79,14 +76,9 @@ impl<W: Wait + Clock + Copy + Drop> Site<W> {
     pub fn group(&self, rt: &W, alloc: Global) -> Result<Handle<W>, Refusal> {
         let configs = self.configs(alloc)?;
         let backends = self.backends(rt, alloc)?;
-        let mut group = LoadBalancerGroup::from_backends_with_configs(
-            rt, alloc, backends, configs,
-        )?;
-        match group.with_rebuild_gate(rt, alloc, Arc::try_clone(&self.gate)?) {
-            Ok(()) => Ok(group),
-            Err(GateRefusal::NotMade(refusal)) => Err(refusal),
-            Err(GateRefusal::WasUpdated) => Err(Refusal::NoSuch),
-        }
+        let gate = Arc::try_clone(&self.gate)?;
+        let group = LoadBalancerGroup::from_backends_with_configs(rt, alloc, backends, configs)?;
+        on_gate(rt, alloc, group, gate)
     }
 
     fn configs(&self, alloc: Global) -> Result<Vec<Option<Counting<W>>>, Refusal> {
@@ -102,6 +94,26 @@ impl<W: Wait + Clock + Copy + Drop> Site<W> {
         let registry = Arc::try_clone(&self.registry)?;
         let found = one_backend(alloc, 1)?;
         Backends::new_with_health_registry(rt, alloc, found, registry)
+    }
+}
+
+// A new group on this gate.
+fn on_gate<
+    S: BackendSelection,
+    D: ServiceDiscovery + Drop,
+    R: KeyRule + Drop,
+    C: HealthCheck + Drop,
+    W: Wait,
+>(
+    rt: &W,
+    alloc: Global,
+    mut group: LoadBalancerGroup<S, D, R, C>,
+    gate: Arc<SelectorRebuildGate>,
+) -> Result<LoadBalancerGroup<S, D, R, C>, Refusal> {
+    match group.with_rebuild_gate(rt, alloc, gate) {
+        Ok(()) => Ok(group),
+        Err(GateRefusal::NotMade(refusal)) => Err(refusal),
+        Err(GateRefusal::WasUpdated) => Err(Refusal::NoSuch),
     }
 }
 
@@ -137,22 +149,13 @@ impl<W: Wait + Clock + Copy + Drop> Crowd<W> {
     ///
     /// `OutOfMemory`: the groups are dropped then too.
     pub fn leave(self, rt: &W, alloc: Global, turns: u64) -> Result<[bool; 6], Refusal> {
-        let shared = self.shared()?;
         let Crowd {
             site,
             first,
             second,
         } = self;
-        drop(first);
-        drop(second);
-        Ok(left(rt, alloc, &site, shared, turns))
-    }
-
-    fn shared(&self) -> Result<[Arc<Group<W>>; 2], Refusal> {
-        Ok([
-            Arc::try_clone(self.first.shared())?,
-            Arc::try_clone(self.second.shared())?,
-        ])
+        let told = dropped(rt, [first, second], turns)?;
+        Ok(left(rt, alloc, &site, told))
     }
 }
 
@@ -169,15 +172,43 @@ fn have_left<S: BackendSelection, R: KeyRule + Drop, C: HealthCheck + Drop, W: W
     ]
 }
 
-// What groups leave whose handles are gone.
+// The groups of two handles, which outlive them.
+fn shared_of<
+    S: BackendSelection,
+    D: ServiceDiscovery + Drop,
+    R: KeyRule + Drop,
+    C: HealthCheck + Drop,
+>(
+    handles: &[LoadBalancerGroup<S, D, R, C>; 2],
+) -> Result<[Arc<SharedGroup<Configured<S>, R, C>>; 2], Refusal> {
+    let [first, second] = handles;
+    Ok([
+        Arc::try_clone(first.shared())?,
+        Arc::try_clone(second.shared())?,
+    ])
+}
+
+// Drops two handles; whether their groups know it, and whether their workers end.
+fn dropped<
+    S: BackendSelection,
+    D: ServiceDiscovery + Drop,
+    R: KeyRule + Drop,
+    C: HealthCheck + Drop,
+    W: Wait + Clock,
+>(rt: &W, handles: [LoadBalancerGroup<S, D, R, C>; 2], turns: u64) -> Result<[bool; 2], Refusal> {
+    let shared = shared_of(&handles)?;
+    drop(handles);
+    Ok(have_left(rt, shared, turns))
+}
+
+// What groups leave at their site whose handles are gone, and which told so much.
 fn left<W: Wait + Clock + Copy + Drop>(
     rt: &W,
     alloc: Global,
     site: &Site<W>,
-    shared: [Arc<Group<W>>; 2],
-    turns: u64,
+    told: [bool; 2],
 ) -> [bool; 6] {
-    let [are_let_go, have_ended] = have_left(rt, shared, turns);
+    let [are_let_go, have_ended] = told;
     [
         are_let_go,
         have_ended,

@@ -35,12 +35,6 @@ impl<S: BackendSelection, R: KeyRule + Drop, C: HealthCheck + Drop> ByPasses
         SharedGroup::pass(self)
     }
 
-    fn reads(&self, slot: usize, pass: &mut GroupPass) -> (u64, Option<u64>) {
-        let served = self.selector_generation_as(slot, pass);
-        let newest = self.backend_generation_as(pass);
-        (newest, served)
-    }
-
     fn meet<W: Wait>(&self, rt: &W, pass: &mut GroupPass, other: &mut GroupPass) {
         SharedGroup::meet(self, rt, pass, other);
     }
@@ -48,6 +42,12 @@ impl<S: BackendSelection, R: KeyRule + Drop, C: HealthCheck + Drop> ByPasses
 
 impl<S: BackendSelection, R: KeyRule + Drop, C: HealthCheck + Drop> GroupByPasses
     for SharedGroup<S, R, C> {
+    fn reads(&self, slot: usize, pass: &mut GroupPass) -> (u64, Option<u64>) {
+        let served = self.selector_generation_as(slot, pass);
+        let newest = self.backend_generation_as(pass);
+        (newest, served)
+    }
+
     fn update_as<W: Wait, K: MomentSource>(
         &self,
         rt: &W,

@@ -1,6 +1,12 @@
 //! The calls of a group's handle that `AskedHandle::ask` makes, each with its own answer.
-use crate::calls::{AskedHandle, BackendsCall, HandleAnswer, HandleCall, HandleReadings};
+ghost use Rattle.std.specs.Prelude.{◌≡◌};
+
+use crate::calls::{
+    AskedHandle, BackendsCall, HandleAnswer, HandleByPasses, HandleCall, HandlePassAnswer,
+    HandlePassCall, HandleReadings,
+};
 use crate::turns::Still;
+use lb_rebuild::board::GroupPass;
 use lb_select_base::backend::Backend;
 use lb_select_base::moments::MomentSource;
 use lb_select_base::refusal::Refusal;
@@ -210,5 +216,82 @@ pub fn readings<H: AskedHandle, W: Wait>(
     match group.ask(rt, alloc, HandleCall::Read(slot), &mut Still {}) {
         HandleAnswer::Readings(answer) => Some(answer),
         _ => None,
+    }
+}
+
+/// Updates a group, and has the pass see the newest generation, which is returned.
+///
+/// # Errors
+///
+/// Those of `LoadBalancerGroup::update`.
+pub fn update_as<H: HandleByPasses, W: Wait, K: MomentSource>(
+    rt: &W,
+    alloc: Global,
+    group: &H,
+    clock: &mut K,
+    pass: &mut GroupPass,
+) -> Result<u64, Refusal>
+    requires { pass.old.board ≡ H.board group.now }
+    ensures { pass.new.board ≡ H.board group.now }
+{
+    match group.ask_as(rt, alloc, HandlePassCall::Update, clock, pass) {
+        HandlePassAnswer::Generation(answer) => answer,
+        _ => Err(Refusal::NoSuch),
+    }
+}
+
+/// Returns the newest generation, and what a slot serves, which is read before it.
+pub fn reads<H: HandleByPasses, W: Wait>(
+    rt: &W,
+    alloc: Global,
+    group: &H,
+    slot: usize,
+    pass: &mut GroupPass,
+) -> Option<(u64, Option<u64>)>
+    requires { pass.old.board ≡ H.board group.now }
+    ensures { pass.new.board ≡ H.board group.now }
+{
+    let call = HandlePassCall::Read(slot);
+    match group.ask_as(rt, alloc, call, &mut Still {}, pass) {
+        HandlePassAnswer::Read(newest, served) => Some((newest, served)),
+        _ => None,
+    }
+}
+
+/// Returns whether each slot serves this generation or a later one, as a pass reads it.
+pub fn are_ready_for_as<H: HandleByPasses, W: Wait>(
+    rt: &W,
+    alloc: Global,
+    group: &H,
+    generation: u64,
+    pass: &mut GroupPass,
+) -> bool
+    requires { pass.old.board ≡ H.board group.now }
+    ensures { pass.new.board ≡ H.board group.now }
+{
+    let call = HandlePassCall::AreReadyFor(generation);
+    matches!(
+        group.ask_as(rt, alloc, call, &mut Still {}, pass),
+        HandlePassAnswer::Ready(true)
+    )
+}
+
+/// Enters slot 0 as a reader, selects by it and leaves. Returns the generation that it entered, and its first candidate.
+///
+/// # Errors
+///
+/// Those of `LoadBalancerGroup::enter_as` and of `select_in`.
+pub fn visit<H: HandleByPasses, W: Wait>(
+    rt: &W,
+    alloc: Global,
+    group: &H,
+    pass: &mut GroupPass,
+) -> Result<(u64, Option<Backend>), Refusal>
+    requires { pass.old.board ≡ H.board group.now }
+    ensures { pass.new.board ≡ H.board group.now }
+{
+    match group.ask_as(rt, alloc, HandlePassCall::Visit, &mut Still {}, pass) {
+        HandlePassAnswer::Visited(answer) => answer,
+        _ => Err(Refusal::NoSuch),
     }
 }

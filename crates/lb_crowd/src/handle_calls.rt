@@ -3,7 +3,8 @@ ghost use Rattle.std.specs.Prelude.{◌≡◌};
 ghost use Rattle.std.specs.Arc.{arc_value};
 
 use crate::calls::{
-    AskedHandle, BackendsCall, ByPasses, HandleAnswer, HandleByPasses, HandleCall, HandleReadings,
+    AskedHandle, BackendsCall, ByPasses, HandleAnswer, HandleByPasses, HandleCall,
+    HandlePassAnswer, HandlePassCall, HandleReadings,
 };
 use lb_background::lending::{LendsToThreads, SharedBackends};
 use lb_balancer_group::group::LoadBalancerGroup;
@@ -105,15 +106,32 @@ impl<
         LoadBalancerGroup::pass(self)
     }
 
-    fn reads(&self, slot: usize, pass: &mut GroupPass) -> (u64, Option<u64>) {
-        let served = self.selector_generation_as(slot, pass);
-        let newest = self.backend_generation_as(pass);
-        (newest, served)
-    }
-
     fn meet<W: Wait>(&self, rt: &W, pass: &mut GroupPass, other: &mut GroupPass) {
         LoadBalancerGroup::meet(self, rt, pass, other);
     }
+}
+
+// Enters slot 0 of a handle as a reader, selects by it and leaves; the generation that it entered, and its first candidate.
+fn visited<
+    S: BackendSelection,
+    D: ServiceDiscovery + Drop,
+    R: KeyRule + Drop,
+    C: HealthCheck + Drop,
+    W: Wait,
+>(
+    rt: &W,
+    alloc: Global,
+    group: &LoadBalancerGroup<S, D, R, C>,
+    pass: &mut GroupPass,
+) -> Result<(u64, Option<Backend>), Refusal>
+    requires { pass.old.board ≡ (arc_value group.now.shared).board }
+    ensures { pass.new.board ≡ (arc_value group.now.shared).board }
+{
+    let reader = group.enter_as(rt, 0, pass)?;
+    let generation = reader.generation();
+    let answer = group.select_in(rt, alloc, &reader, b"k", 1, &|_backend: &Backend| true);
+    group.leave(rt, reader);
+    Ok((generation, answer?))
 }
 
 impl<
@@ -122,30 +140,26 @@ impl<
     R: KeyRule + Drop,
     C: HealthCheck + Drop,
 > HandleByPasses for LoadBalancerGroup<S, D, R, C> {
-    fn update_as<W: Wait, K: MomentSource>(
+    fn ask_as<W: Wait, K: MomentSource>(
         &self,
         rt: &W,
         alloc: Global,
+        call: HandlePassCall,
         clock: &mut K,
         pass: &mut GroupPass,
-    ) -> Result<u64, Refusal> {
-        LoadBalancerGroup::update_as(self, rt, alloc, clock, pass)
-    }
-
-    fn selectors_ready_for_as(&self, generation: u64, pass: &mut GroupPass) -> bool {
-        LoadBalancerGroup::selectors_ready_for_as(self, generation, pass)
-    }
-
-    fn visit<W: Wait>(
-        &self,
-        rt: &W,
-        alloc: Global,
-        pass: &mut GroupPass,
-    ) -> Result<(u64, Option<Backend>), Refusal> {
-        let reader = self.enter_as(rt, 0, pass)?;
-        let generation = reader.generation();
-        let answer = self.select_in(rt, alloc, &reader, b"k", 1, &|_backend: &Backend| true);
-        self.leave(rt, reader);
-        Ok((generation, answer?))
+    ) -> HandlePassAnswer {
+        match call {
+            HandlePassCall::Update => {
+                HandlePassAnswer::Generation(self.update_as(rt, alloc, clock, pass))
+            }
+            HandlePassCall::Read(slot) => {
+                let served = self.selector_generation_as(slot, pass);
+                HandlePassAnswer::Read(self.backend_generation_as(pass), served)
+            }
+            HandlePassCall::AreReadyFor(generation) => {
+                HandlePassAnswer::Ready(self.selectors_ready_for_as(generation, pass))
+            }
+            HandlePassCall::Visit => HandlePassAnswer::Visited(visited(rt, alloc, self, pass)),
+        }
     }
 }

@@ -16,7 +16,7 @@ use crate::asserted::assert_same;
 use crate::groups::moments::At;
 use lb_crowd::calls::{GroupByPasses, GroupWithReaders, HandleByPasses};
 use lb_crowd::counted::Counts;
-use lb_crowd::crowd::{Crowd, Registry};
+use lb_crowd::crowd::{Crowd, Registry, Site};
 use log::Log;
 use pingora_load_balancing::background::RuntimeClock;
 use pingora_load_balancing::discovery::ServiceDiscovery;
@@ -240,11 +240,10 @@ where
     }
 }
 
-// Plays a case of groups and handles of these types.
+// Plays a case of two groups at a site, by their handles.
 fn play_on<
     S: BackendSelection + Send + Sync + 'static,
     D: ServiceDiscovery + Drop + Send + Sync + 'static,
-    T: BackendSelection + Send + Sync + 'static,
     R: KeyRule + Drop + Send + Sync + 'static,
     C: HealthCheck + Drop + Send + Sync + 'static,
     W: Abort + Log + Threads + Wait + Clock + Copy + Send + Sync + Drop + 'static,
@@ -252,18 +251,27 @@ fn play_on<
 >(
     rt: &W,
     alloc: Global,
-    pair: &Pair<'_, LoadBalancerGroup<S, D, R, C>, SharedGroup<T, R, C>, W>,
+    handles: [&LoadBalancerGroup<S, D, R, C>; 2],
+    site: &Site<W>,
     starts: &F,
     row: Row,
 )
 where
     S::Config: Send + Sync + 'static,
     S::Walk: Send + Sync + 'static,
-    T::Config: Send + Sync + 'static,
-    T::Walk: Send + Sync + 'static,
     requires { F.IsAlwaysCallable starts.now }
 {
-    play_groups_of(rt, alloc, pair, starts, row);
+    let [first, second] = handles;
+    let pair = Pair {
+        first,
+        second,
+        group: first.shared(),
+        other: second.shared(),
+        counts: &*site.counts,
+        gate: &*site.gate,
+        registry: &*site.registry,
+    };
+    play_groups_of(rt, alloc, &pair, starts, row);
 }
 
 // How many cells are kept and healthy, of those that there can be.
@@ -296,6 +304,18 @@ fn started<W: Log + Threads + Wait + Clock + Copy + Send + Sync + Drop + 'static
     }
 }
 
+// Plays a case of a crowd without workers.
+fn play<W: Abort + Log + Threads + Wait + Clock + Copy + Send + Sync + Drop + 'static>(
+    rt: &W,
+    alloc: Global,
+    crowd: &Crowd<W>,
+    row: Row,
+) {
+    let starts = |place: usize| started(rt, alloc, crowd, place, row);
+    let handles = [&crowd.first, &crowd.second];
+    play_on(rt, alloc, handles, &crowd.site, &starts, row);
+}
+
 // Plays a case, drops both handles then, and looks at what the groups leave: the registry keeps no cell for them.
 fn played<W: Abort + Log + Threads + Wait + Clock + Copy + Send + Sync + Drop + 'static>(
     rt: &W,
@@ -304,18 +324,7 @@ fn played<W: Abort + Log + Threads + Wait + Clock + Copy + Send + Sync + Drop + 
     row: Row,
 ) {
     let crowd = Crowd::new(*rt, alloc, registry).expect(rt, "refused");
-    let site = &crowd.site;
-    let pair = Pair {
-        first: &crowd.first,
-        second: &crowd.second,
-        group: crowd.first.shared(),
-        other: crowd.second.shared(),
-        counts: &*site.counts,
-        gate: &*site.gate,
-        registry: &**registry,
-    };
-    let starts = |place: usize| started(rt, alloc, &crowd, place, row);
-    play_on(rt, alloc, &pair, &starts, row);
+    play(rt, alloc, &crowd, row);
     let left = crowd.leave(rt, alloc, TURNS).expect(rt, "refused");
     let told = (left, kept(rt, &**registry));
     assert_same(rt, &told, &([true; 6], 0), &row);

@@ -430,26 +430,46 @@ fn all_end<S: BackendSelection, R: KeyRule + Drop, C: HealthCheck + Drop, W: Clo
     true
 }
 
+// Drops the handles of groups; whether their workers end then.
+fn dropped<
+    S: BackendSelection,
+    D: ServiceDiscovery + Drop,
+    R: KeyRule + Drop,
+    C: HealthCheck + Drop,
+    W: Abort + Clock,
+>(rt: &W, alloc: Global, groups: Vec<LoadBalancerGroup<S, D, R, C>>) -> bool {
+    let shared = shared_of(rt, alloc, groups.as_slice());
+    drop(groups);
+    all_end(rt, shared.as_slice())
+}
+
+// What groups leave at their site whose workers have ended, or haven't.
+fn left<W: Wait + Clock + Copy + Drop>(
+    rt: &W,
+    alloc: Global,
+    site: &Site<W>,
+    have_ended: bool,
+) -> [bool; 5] {
+    [
+        have_ended,
+        site.counts.most.load(SeqCst) <= MOST,
+        is_free(rt, &site.gate),
+        lives_none(&site.counts),
+        site.registry.target_count(rt, alloc) == Ok(0),
+    ]
+}
+
 impl<W: Abort + Wait + Clock + Copy + Drop> Forms<W> {
     // Drops the handles; whether the workers end, no more selectors than the slots and one ever lived, the permit is back, no selector
     // lives on, and the registry has no target left.
     fn leave(self, rt: &W, alloc: Global) -> [bool; 5] {
-        let shared = shared_of(rt, alloc, self.groups.as_slice());
         let Forms {
             site,
             groups,
             tally: _,
         } = self;
-        drop(groups);
-        let have_ended = all_end(rt, shared.as_slice());
-        drop(shared);
-        [
-            have_ended,
-            site.counts.most.load(SeqCst) <= MOST,
-            is_free(rt, &site.gate),
-            lives_none(&site.counts),
-            site.registry.target_count(rt, alloc) == Ok(0),
-        ]
+        let have_ended = dropped(rt, alloc, groups);
+        left(rt, alloc, &site, have_ended)
     }
 }
 

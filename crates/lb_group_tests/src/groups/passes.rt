@@ -19,18 +19,20 @@ fn told_before<H: HandleByPasses, W: Wait + Clock + Copy>(
     group: &H,
 ) -> [bool; 4] {
     let mut pass = group.pass();
-    let generation = group.update_as(rt, alloc, &mut RuntimeClock::new(*rt), &mut pass);
+    let mut clock = RuntimeClock::new(*rt);
+    let generation = handle_asks::update_as(rt, alloc, group, &mut clock, &mut pass);
     [
         generation == Ok(1),
-        group.reads(0, &mut pass) == (1, Some(0)),
-        !group.selectors_ready_for_as(1, &mut pass),
-        group.reads(7, &mut pass) == (1, None),
+        handle_asks::reads(rt, alloc, group, 0, &mut pass) == Some((1, Some(0))),
+        !handle_asks::are_ready_for_as(rt, alloc, group, 1, &mut pass),
+        handle_asks::reads(rt, alloc, group, 7, &mut pass) == Some((1, None)),
     ]
 }
 
 // Whether each slot serves generation 1 to a pass, within a thousand turns of ten milliseconds.
 fn comes_to_serve<H: HandleByPasses, W: Wait + Clock>(
     rt: &W,
+    alloc: Global,
     group: &H,
     pass: &mut GroupPass,
 ) -> bool
@@ -38,7 +40,7 @@ fn comes_to_serve<H: HandleByPasses, W: Wait + Clock>(
     ensures { pass.new.board ≡ H.board group.now }
 {
     for _ in 0..TURNS {
-        if group.selectors_ready_for_as(1, pass) {
+        if handle_asks::are_ready_for_as(rt, alloc, group, 1, pass) {
             return true;
         }
         thread::sleep(rt, Duration::from_millis(10));
@@ -54,11 +56,12 @@ fn told_after<H: HandleByPasses, W: Abort + Wait + Clock>(
     expected: &Backend,
 ) -> [bool; 5] {
     let (mut pass, mut other) = (group.pass(), group.pass());
-    let serves = comes_to_serve(rt, group, &mut pass);
-    let (_, served) = group.reads(0, &mut pass);
+    let serves = comes_to_serve(rt, alloc, group, &mut pass);
+    let read = handle_asks::reads(rt, alloc, group, 0, &mut pass);
+    let (_, served) = read.expect(rt, "another answer");
     group.meet(rt, &mut pass, &mut other);
-    let is_met = group.selectors_ready_for_as(1, &mut other);
-    let visited = group.visit(rt, alloc, &mut other);
+    let is_met = handle_asks::are_ready_for_as(rt, alloc, group, 1, &mut other);
+    let visited = handle_asks::visit(rt, alloc, group, &mut other);
     let (generation, chosen) = visited.expect(rt, "refused");
     [
         serves,

@@ -14,6 +14,7 @@ use pingora_load_balancing::background::{
 };
 use pingora_load_balancing::discovery::{Discovered, DiscoverySource, ServiceDiscovery, Settings};
 use pingora_load_balancing::health_check::{CheckError, HealthCheck, NoRule, Rule};
+use pingora_load_balancing::selection::BackendSelection;
 use pingora_load_balancing::{
     Backend, Backends, GateRefusal, LoadBalancerGroup, Refusal, SelectorRebuildGate,
 };
@@ -206,6 +207,21 @@ fn comes_to_serve<H: AskedHandle, W: Wait + Clock>(rt: &W, alloc: Global, group:
     false
 }
 
+// A group with a registry of its own and that check, whose slots have these configurations.
+fn made<S: BackendSelection, D: ServiceDiscovery + Drop, C: HealthCheck + Drop, W: Abort + Wait>(
+    rt: &W,
+    alloc: Global,
+    found: DiscoverySource<D>,
+    check: C,
+    configs: Vec<Option<S::Config>>,
+) -> LoadBalancerGroup<S, D, Rule<NoRule>, C> {
+    let backends = Backends::new(rt, alloc, found).expect(rt, "refused");
+    let group = LoadBalancerGroup::from_backends_with_configs(rt, alloc, backends, configs);
+    let group = group.expect(rt, "refused");
+    group.set_health_check(rt, check).expect(rt, "refused");
+    group
+}
+
 fn group_of<W: Abort + Wait + Clock + Copy + Drop>(
     rt: W,
     alloc: Global,
@@ -213,23 +229,16 @@ fn group_of<W: Abort + Wait + Clock + Copy + Drop>(
     calls: &Arc<Calls>,
     watch: &ShutdownWatch,
 ) -> Group<W> {
-    let discovery = DiscoverySource::Boxed(slow_for(rt, calls, watch));
-    let backends = Backends::new(&rt, alloc, discovery);
-    let backends: Backends<Slow<W>, Rule<NoRule>, Slow<W>> = backends.expect(&rt, "refused");
-    let counts = Arc::try_clone(counts).expect(&rt, "refused");
+    let counting = Counting {
+        config: (),
+        counts: Some(Arc::try_clone(counts).expect(&rt, "refused")),
+    };
     let mut configs = Vec::new(alloc);
-    configs
-        .push(Some(Counting {
-            config: (),
-            counts: Some(counts),
-        }))
-        .expect(&rt, "refused");
+    configs.push(Some(counting)).expect(&rt, "refused");
     configs.push(None).expect(&rt, "refused");
-    let group = LoadBalancerGroup::from_backends_with_configs(&rt, alloc, backends, configs);
-    let group = group.expect(&rt, "refused");
+    let found = DiscoverySource::Boxed(slow_for(rt, calls, watch));
     let check = slow_for(rt, calls, watch);
-    group.set_health_check(&rt, check).expect(&rt, "refused");
-    group
+    made(&rt, alloc, found, check, configs)
 }
 
 fn slow_for<W: Abort + Copy + Drop>(rt: W, calls: &Arc<Calls>, watch: &ShutdownWatch) -> Slow<W> {
@@ -332,6 +341,22 @@ fn runs_alone<
     updates == 1 && ready.is_ready()
 }
 
+// Runs the group, and ends that once so much was counted; whether it was, and what the run left.
+fn ended<
+    W: Abort + Threads + Wait + Clock + Copy + Send + Sync + Drop + 'static,
+    L: Log + Threads + Wait + Copy + Send + Sync + 'static,
+>(rt: &W, logged: &L, alloc: Global, bench: &mut Bench<W>, wanted: Wanted) -> (bool, Left) {
+    let (notifier, ready) = bench.begin(rt, alloc, wanted);
+    let (counts, calls, signal) = (&*bench.counts, &*bench.calls, &mut bench.signal);
+    let (group, watch, mut clock) = (&bench.group, &bench.watch, RuntimeClock::new(*rt));
+    let (came, _) = join(
+        rt,
+        || end_after(counts, calls, &ready, wanted, signal),
+        move || group.run(logged, alloc, &mut clock, watch, Some(notifier)),
+    );
+    (came, bench.left(rt, alloc, &ready, wanted))
+}
+
 // Runs that are shut down in their update, in their check, and while they wait for a build that is held. An update goes on to its end,
 // and its membership is kept. So does a check, and its verdict is kept. A build doesn't hold up the end; it is ended, and served. No
 // notifier is notified. Then a run that updates again and again: its notifier is notified once what it found is served, and an update
@@ -343,17 +368,8 @@ fn what_is_under_way_is_let_end(rt: HostRuntime) {
     let logged = Logged::new(rt, Level::Error, noted);
     let mut bench = Bench::new(rt, alloc);
     for wanted in RUNS {
-        let wanted = *wanted;
-        let (notifier, ready) = bench.begin(&rt, alloc, wanted);
-        let (counts, calls, signal) = (&*bench.counts, &*bench.calls, &mut bench.signal);
-        let (group, watch, mut clock) = (&bench.group, &bench.watch, RuntimeClock::new(rt));
-        let (came, _) = join(
-            &rt,
-            || end_after(counts, calls, &ready, wanted, signal),
-            move || group.run(&logged, alloc, &mut clock, watch, Some(notifier)),
-        );
-        let told = (came, bench.left(&rt, alloc, &ready, wanted));
-        assert_same(&rt, &told, &(true, wanted.leaves()), &wanted);
+        let told = ended(&rt, &logged, alloc, &mut bench, *wanted);
+        assert_same(&rt, &told, &(true, wanted.leaves()), wanted);
     }
     bench.group.update_frequency = None;
     assert!(rt; runs_alone(&rt, &logged, alloc, &bench));
