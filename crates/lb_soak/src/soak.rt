@@ -184,6 +184,17 @@ fn all_settle<W: Wait + Clock + Copy + Drop>(
     groups: &Groups<W>,
 ) -> Result<(), Error> {
     for group in &groups.handles {
+// Lets groups serve what they were updated to. Returns the processor time that is taken in the ten seconds after that.
+fn ticks_taken<
+    W: Log + Threads + Wait + Clock + Files + AllocGlobal + Copy + Send + Sync + Drop + 'static,
+>(rt: &W, alloc: Global, groups: &Groups<W>) -> Result<u64, Error> {
+    all_start(rt, alloc, groups)?;
+    all_settle(rt, alloc, groups)?;
+    let before = Process::read(rt)?.ticks;
+    thread::sleep(rt, Duration::from_secs(IDLE));
+    Ok(Process::read(rt)?.ticks.saturating_sub(before))
+}
+
         stir(rt, alloc, &**group, 0)?;
         if !settles(rt, &**group) {
             Err(Fault::Wrong)?;
@@ -197,11 +208,7 @@ fn idle<
     W: Log + Threads + Wait + Clock + Files + AllocGlobal + Copy + Send + Sync + Drop + 'static,
 >(rt: &W, alloc: Global, site: &Site) -> Result<(), Error> {
     let groups = Groups::new(*rt, alloc, site)?;
-    all_start(rt, alloc, &groups)?;
-    all_settle(rt, alloc, &groups)?;
-    let before = Process::read(rt)?.ticks;
-    thread::sleep(rt, Duration::from_secs(IDLE));
-    let taken = Process::read(rt)?.ticks.saturating_sub(before);
+    let taken = ticks_taken(rt, alloc, &groups)?;
     left(rt, alloc, site, groups)?;
     if taken >= IDLE_TICKS {
         Err(Fault::Busy(taken))?;
