@@ -90,13 +90,14 @@ fn happens<W: Log + Threads + Wait + Clock + Copy + Send + Sync + Drop>(
         stir(rt, alloc, &**group, turn)?;
     }
     let [registry, other] = &site.registries;
-    match turn % 16 {
-        3 => pass(rt, alloc, registry, false),
-        7 => pass(rt, alloc, other, false),
-        11 => pass(rt, alloc, registry, true),
-        15 => pass(rt, alloc, other, true),
-        _ => Ok(()),
-    }
+    let (registry, is_parallel) = match turn % 16 {
+        3 => (registry, false),
+        7 => (other, false),
+        11 => (registry, true),
+        15 => (other, true),
+        _ => return Ok(()),
+    };
+    pass(rt, alloc, registry, is_parallel)
 }
 
 // All updates of a round. Two groups are cancelled then, or none.
