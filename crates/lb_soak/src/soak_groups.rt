@@ -182,9 +182,9 @@ fn dropped<
     C: HealthCheck + Drop,
     W: Wait + Clock,
 >(rt: &W, handles: [Arc<LoadBalancerGroup<S, D, R, C>>; 4]) -> Result<bool, Refusal> {
-    let shared = shared_of(&handles)?;
+    let shared = shared_of(&handles);
     drop(handles);
-    Ok(all_end(rt, &shared))
+    Ok(all_end(rt, &shared?))
 }
 
 /// The four groups, and the counts of the selectors on each gate.
