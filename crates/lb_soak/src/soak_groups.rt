@@ -287,12 +287,13 @@ where
 }
 
 /// Updates a group, and sets a flag and a load of one of the new backends.
-pub fn stir<W: Wait + Clock + Copy + Drop, S: BackendSelection>(
-    rt: &W,
-    alloc: Global,
-    group: &Handle<W, S>,
-    turn: u64,
-) -> Result<(), Refusal> {
+pub fn stir<
+    S: BackendSelection,
+    D: ServiceDiscovery + Drop,
+    R: KeyRule + Drop,
+    C: HealthCheck + Drop,
+    W: Wait + Clock + Copy,
+>(rt: &W, alloc: Global, group: &LoadBalancerGroup<S, D, R, C>, turn: u64) -> Result<(), Refusal> {
     let generation = group.update(rt, alloc, &mut RuntimeClock::new(*rt))?;
     let place = (turn % 4) as u32;
     let backend = member_of(alloc, generation, place);
