@@ -6,7 +6,7 @@
 use crate::passes::pass;
 use crate::process::{Process, resident};
 use crate::soak_groups::{Flips, Groups, Registry, Site, settles, starts, stir};
-use crate::soak_threads::{Tally, joined, start_user};
+use crate::soak_threads::{Tally, all_right, start_users};
 use anyhow::Error;
 use lb_select_base::refusal::Refusal;
 use lb_threads_core::gate::SelectorRebuildGate;
@@ -129,19 +129,10 @@ fn used<W: Log + Threads + Wait + Clock + Copy + Send + Sync + Drop + 'static>(
 ) -> Result<u64, Error> {
     all_start(rt, alloc, groups)?;
     let tally = Arc::new(alloc, Tally::new())?;
-    let [first, second, third, last] = &groups.handles;
-    let users = [
-        start_user(rt, alloc, first, &tally),
-        start_user(rt, alloc, second, &tally),
-        start_user(rt, alloc, third, &tally),
-        start_user(rt, alloc, last, &tally),
-    ];
+    let users = start_users(rt, alloc, &groups.handles, &tally);
     let stirred = stirred(rt, alloc, site, groups, is_cancelled);
     tally.over.store(true, SeqCst);
-    let mut are_right = true;
-    for user in users {
-        are_right &= joined(rt, user);
-    }
+    let are_right = all_right(rt, users);
     stirred?;
     if !are_right {
         Err(Fault::Wrong)?;
@@ -185,6 +176,14 @@ fn all_settle<W: Wait + Clock + Copy + Drop>(
     groups: &Groups<W>,
 ) -> Result<(), Error> {
     for group in &groups.handles {
+        stir(rt, alloc, &**group, 0)?;
+        if !settles(rt, &**group) {
+            Err(Fault::Wrong)?;
+        }
+    }
+    Ok(())
+}
+
 // Lets groups serve what they were updated to. Returns the processor time that is taken in the ten seconds after that.
 fn ticks_taken<
     W: Log + Threads + Wait + Clock + Files + AllocGlobal + Copy + Send + Sync + Drop + 'static,
@@ -194,14 +193,6 @@ fn ticks_taken<
     let before = Process::read(rt)?.ticks;
     thread::sleep(rt, Duration::from_secs(IDLE));
     Ok(Process::read(rt)?.ticks.saturating_sub(before))
-}
-
-        stir(rt, alloc, &**group, 0)?;
-        if !settles(rt, &**group) {
-            Err(Fault::Wrong)?;
-        }
-    }
-    Ok(())
 }
 
 // Groups that serve what they were updated to, and in which nothing happens for ten seconds.
