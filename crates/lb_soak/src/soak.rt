@@ -6,7 +6,7 @@
 use crate::passes::pass;
 use crate::process::{Process, resident};
 use crate::soak_groups::{Flips, Groups, Registry, Site, settles, starts, stir};
-use crate::soak_threads::{Tally, joined, start_user};
+use crate::soak_threads::{Tally, all_right, start_users};
 use anyhow::Error;
 use lb_select_base::refusal::Refusal;
 use lb_threads_core::gate::SelectorRebuildGate;
@@ -90,13 +90,14 @@ fn happens<W: Log + Threads + Wait + Clock + Copy + Send + Sync + Drop>(
         stir(rt, alloc, &**group, turn)?;
     }
     let [registry, other] = &site.registries;
-    match turn % 16 {
-        3 => pass(rt, alloc, registry, false),
-        7 => pass(rt, alloc, other, false),
-        11 => pass(rt, alloc, registry, true),
-        15 => pass(rt, alloc, other, true),
-        _ => Ok(()),
-    }
+    let (registry, is_parallel) = match turn % 16 {
+        3 => (registry, false),
+        7 => (other, false),
+        11 => (registry, true),
+        15 => (other, true),
+        _ => return Ok(()),
+    };
+    pass(rt, alloc, registry, is_parallel)
 }
 
 // All updates of a round. Two groups are cancelled then, or none.
@@ -128,19 +129,10 @@ fn used<W: Log + Threads + Wait + Clock + Copy + Send + Sync + Drop + 'static>(
 ) -> Result<u64, Error> {
     all_start(rt, alloc, groups)?;
     let tally = Arc::new(alloc, Tally::new())?;
-    let [first, second, third, last] = &groups.handles;
-    let users = [
-        start_user(rt, alloc, first, &tally),
-        start_user(rt, alloc, second, &tally),
-        start_user(rt, alloc, third, &tally),
-        start_user(rt, alloc, last, &tally),
-    ];
+    let users = start_users(rt, alloc, &groups.handles, &tally);
     let stirred = stirred(rt, alloc, site, groups, is_cancelled);
     tally.over.store(true, SeqCst);
-    let mut are_right = true;
-    for user in users {
-        are_right &= joined(rt, user);
-    }
+    let are_right = all_right(rt, users);
     stirred?;
     if !are_right {
         Err(Fault::Wrong)?;
@@ -192,16 +184,23 @@ fn all_settle<W: Wait + Clock + Copy + Drop>(
     Ok(())
 }
 
+// Lets groups serve what they were updated to. Returns the processor time that is taken in the ten seconds after that.
+fn ticks_taken<
+    W: Log + Threads + Wait + Clock + Files + AllocGlobal + Copy + Send + Sync + Drop + 'static,
+>(rt: &W, alloc: Global, groups: &Groups<W>) -> Result<u64, Error> {
+    all_start(rt, alloc, groups)?;
+    all_settle(rt, alloc, groups)?;
+    let before = Process::read(rt)?.ticks;
+    thread::sleep(rt, Duration::from_secs(IDLE));
+    Ok(Process::read(rt)?.ticks.saturating_sub(before))
+}
+
 // Groups that serve what they were updated to, and in which nothing happens for ten seconds.
 fn idle<
     W: Log + Threads + Wait + Clock + Files + AllocGlobal + Copy + Send + Sync + Drop + 'static,
 >(rt: &W, alloc: Global, site: &Site) -> Result<(), Error> {
     let groups = Groups::new(*rt, alloc, site)?;
-    all_start(rt, alloc, &groups)?;
-    all_settle(rt, alloc, &groups)?;
-    let before = Process::read(rt)?.ticks;
-    thread::sleep(rt, Duration::from_secs(IDLE));
-    let taken = Process::read(rt)?.ticks.saturating_sub(before);
+    let taken = ticks_taken(rt, alloc, &groups)?;
     left(rt, alloc, site, groups)?;
     if taken >= IDLE_TICKS {
         Err(Fault::Busy(taken))?;

@@ -117,24 +117,46 @@ fn slot<W: Drop, C: Drop>(
     }))
 }
 
-// A group without workers on this gate and over this registry, whose two slots have these configurations.
-fn group_on<W: Wait + Clock + Drop, S: BackendSelection>(
+// A view over this registry, whose discovery begins at generation 1.
+fn view_over<W: Wait>(
     rt: &W,
     alloc: Global,
-    gate: &Arc<SelectorRebuildGate>,
     registry: &Arc<Registry>,
-    counts: &Arc<Counts<W>>,
-    first: S::Config,
-    second: S::Config,
-) -> Result<Arc<Handle<W, S>>, Refusal> {
-    let mut configs = Vec::new(alloc);
-    configs.push(slot(counts, first)?)?;
-    configs.push(slot(counts, second)?)?;
+) -> Result<Backends<Generations, Rule<NoRule>, Flips>, Refusal> {
     let found = DiscoverySource::Boxed(Generations {
         found: AtomicU64::new(0),
     });
-    let backends = Backends::new_with_health_registry(rt, alloc, found, Arc::try_clone(registry)?)?;
-    let mut group: Handle<W, S> = LoadBalancerGroup::from_backends_with_configs(
+    Backends::new_with_health_registry(rt, alloc, found, Arc::try_clone(registry)?)
+}
+
+// The configurations of a group's two slots.
+fn slots<W: Drop, C: Copy + Drop>(
+    alloc: Global,
+    counts: &Arc<Counts<W>>,
+    configs: [C; 2],
+) -> Result<Vec<Option<Counting<W, C>>>, Refusal> {
+    let [first, second] = configs;
+    let mut slots = Vec::new(alloc);
+    slots.push(slot(counts, first)?)?;
+    slots.push(slot(counts, second)?)?;
+    Ok(slots)
+}
+
+// A group without workers on this gate and over these backends, with a slot for each configuration.
+fn group_of<
+    S: BackendSelection,
+    D: ServiceDiscovery + Drop,
+    R: KeyRule + Drop,
+    C: HealthCheck + Drop,
+    W: Wait,
+>(
+    rt: &W,
+    alloc: Global,
+    gate: &Arc<SelectorRebuildGate>,
+    backends: Backends<D, R, C>,
+    configs: Vec<Option<S::Config>>,
+) -> Result<Arc<LoadBalancerGroup<S, D, R, C>>, Refusal> {
+    let mut group: LoadBalancerGroup<S, D, R, C> = LoadBalancerGroup::from_backends_with_configs(
         rt, alloc, backends, configs,
     )?;
     match group.with_rebuild_gate(rt, alloc, Arc::try_clone(gate)?) {
@@ -142,6 +164,45 @@ fn group_on<W: Wait + Clock + Drop, S: BackendSelection>(
         Err(GateRefusal::NotMade(refusal)) => Err(refusal),
         Err(GateRefusal::WasUpdated) => Err(Refusal::NoSuch),
     }
+}
+
+// A group without workers on this gate and over this registry, whose two slots have these configurations.
+fn group_on<W: Wait + Clock + Drop, S: BackendSelection>(
+    rt: &W,
+    alloc: Global,
+    gate: &Arc<SelectorRebuildGate>,
+    registry: &Arc<Registry>,
+    counts: &Arc<Counts<W>>,
+    configs: [S::Config; 2],
+) -> Result<Arc<Handle<W, S>>, Refusal>
+where
+    S::Config: Copy,
+{
+    let configs = slots(alloc, counts, configs)?;
+    let backends = view_over(rt, alloc, registry)?;
+    group_of(rt, alloc, gate, backends, configs)
+}
+
+// The groups of a site, two on each gate and two over each registry, by the configurations of their slots.
+fn groups_on<W: Wait + Clock + Drop, S: BackendSelection>(
+    rt: &W,
+    alloc: Global,
+    site: &Site,
+    counts: &[Arc<Counts<W>>; 2],
+    configs: [[S::Config; 2]; 4],
+) -> Result<[Arc<Handle<W, S>>; 4], Refusal>
+where
+    S::Config: Copy,
+{
+    let ([gate, other_gate], [registry, other]) = (&site.gates, &site.registries);
+    let [one, two] = counts;
+    let [first, second, third, last] = configs;
+    Ok([
+        group_on(rt, alloc, gate, registry, one, first)?,
+        group_on(rt, alloc, gate, other, one, second)?,
+        group_on(rt, alloc, other_gate, registry, two, third)?,
+        group_on(rt, alloc, other_gate, other, two, last)?,
+    ])
 }
 
 // The groups of these handles, which outlive them.
@@ -182,9 +243,9 @@ fn dropped<
     C: HealthCheck + Drop,
     W: Wait + Clock,
 >(rt: &W, handles: [Arc<LoadBalancerGroup<S, D, R, C>>; 4]) -> Result<bool, Refusal> {
-    let shared = shared_of(&handles)?;
+    let shared = shared_of(&handles);
     drop(handles);
-    Ok(all_end(rt, &shared))
+    Ok(all_end(rt, &shared?))
 }
 
 /// The four groups, and the counts of the selectors on each gate.
@@ -203,25 +264,15 @@ impl<W: Wait + Clock + Copy + Drop> Groups<W> {
     /// Makes the groups, without workers.
     pub fn new(rt: W, alloc: Global, site: &Site) -> Result<Groups<W>, Refusal> {
         let counts = [counts_of(rt, alloc)?, counts_of(rt, alloc)?];
-        let ([gate, other_gate], [registry, other]) = (&site.gates, &site.registries);
-        let [one, two] = &counts;
-        let (turn, hash) = (Kind::RoundRobin, Kind::Fnv);
-        let (ring, least) = (Kind::Ketama, Kind::Least);
-        let handles = [
-            group_on(&rt, alloc, gate, registry, one, turn, hash)?,
-            group_on(&rt, alloc, gate, other, one, ring, least)?,
-            group_on(&rt, alloc, other_gate, registry, two, least, turn)?,
-            group_on(
-                &rt,
-                alloc,
-                other_gate,
-                other,
-                two,
-                Kind::Random,
-                Kind::Random,
-            )?,
+        let configs = [
+            [Kind::RoundRobin, Kind::Fnv],
+            [Kind::Ketama, Kind::Least],
+            [Kind::Least, Kind::RoundRobin],
+            [Kind::Random, Kind::Random],
         ];
+        let handles = groups_on(&rt, alloc, site, &counts, configs)?;
         // Each slot has a selector now; those that were built to make the groups are gone.
+        let [one, two] = &counts;
         one.most.store(4, SeqCst);
         two.most.store(4, SeqCst);
         Ok(Groups { counts, handles })
@@ -287,12 +338,13 @@ where
 }
 
 /// Updates a group, and sets a flag and a load of one of the new backends.
-pub fn stir<W: Wait + Clock + Copy + Drop, S: BackendSelection>(
-    rt: &W,
-    alloc: Global,
-    group: &Handle<W, S>,
-    turn: u64,
-) -> Result<(), Refusal> {
+pub fn stir<
+    S: BackendSelection,
+    D: ServiceDiscovery + Drop,
+    R: KeyRule + Drop,
+    C: HealthCheck + Drop,
+    W: Wait + Clock + Copy,
+>(rt: &W, alloc: Global, group: &LoadBalancerGroup<S, D, R, C>, turn: u64) -> Result<(), Refusal> {
     let generation = group.update(rt, alloc, &mut RuntimeClock::new(*rt))?;
     let place = (turn % 4) as u32;
     let backend = member_of(alloc, generation, place);

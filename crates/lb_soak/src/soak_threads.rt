@@ -212,8 +212,8 @@ fn uses<
     false
 }
 
-/// Starts a thread that uses a group. It returns whether all was right. None where it can't be started.
-pub fn start_user<
+// Starts a thread that uses a group. It returns whether all was right. None where it can't be started.
+fn start_user<
     S: BackendSelection + Send + Sync + 'static,
     D: ServiceDiscovery + Drop + Send + Sync + 'static,
     R: KeyRule + Drop + Send + Sync + 'static,
@@ -238,10 +238,45 @@ where
     started.ok()
 }
 
-/// Returns what a thread answered; `false` where none was started.
-pub fn joined<W: Threads>(rt: &W, user: Option<JoinHandle<bool>>) -> bool {
+/// Starts a thread for each group that uses it.
+pub fn start_users<
+    S: BackendSelection + Send + Sync + 'static,
+    D: ServiceDiscovery + Drop + Send + Sync + 'static,
+    R: KeyRule + Drop + Send + Sync + 'static,
+    C: HealthCheck + Drop + Send + Sync + 'static,
+    W: Threads + Wait + Clock + Copy + Send + 'static,
+>(
+    rt: &W,
+    alloc: Global,
+    groups: &[Arc<LoadBalancerGroup<S, D, R, C>>; 4],
+    tally: &Arc<Tally>,
+) -> [Option<JoinHandle<bool>>; 4]
+where
+    S::Config: Send + Sync + 'static,
+    S::Walk: Send + Sync + 'static,
+{
+    let [first, second, third, last] = groups;
+    [
+        start_user(rt, alloc, first, tally),
+        start_user(rt, alloc, second, tally),
+        start_user(rt, alloc, third, tally),
+        start_user(rt, alloc, last, tally),
+    ]
+}
+
+// What a thread answered; `false` where none was started.
+fn joined<W: Threads>(rt: &W, user: Option<JoinHandle<bool>>) -> bool {
     match user {
         Some(user) => user.join(rt),
         None => false,
     }
+}
+
+/// Returns whether each thread was started and answered that all was right.
+pub fn all_right<W: Threads>(rt: &W, users: [Option<JoinHandle<bool>>; 4]) -> bool {
+    let mut are_right = true;
+    for user in users {
+        are_right &= joined(rt, user);
+    }
+    are_right
 }
