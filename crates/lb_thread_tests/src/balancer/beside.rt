@@ -2,10 +2,13 @@
 use crate::balancer::fixtures::{
     Bench, GROWN, InTurn, ROWS, SecondDown, TestedRegistry, UP, is_second, waited,
 };
+use lb_balancer::reader::BalancerReader;
+use lb_health_core::keys::Rule;
+use lb_select::selection::RoundRobin;
+use lb_select_base::backend::Backend;
+use lb_threads_core::keyed::NoRule;
+use lb_threads_core::registry::HealthRegistry;
 use log::Log;
-use pingora_load_balancing::health_check::{NoRule, Rule};
-use pingora_load_balancing::prelude::RoundRobin;
-use pingora_load_balancing::{Backend, BalancerReader, HealthRegistry};
 use std::process::Abort;
 use std::sync::atomic::Ordering::SeqCst;
 use std::sync::{Arc, Wait};
