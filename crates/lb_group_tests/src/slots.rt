@@ -8,9 +8,9 @@ use lb_crowd::turns::{Still, turn};
 use lb_threads_core::registry::{put_registry, take_registry};
 use log::Log;
 use pingora_load_balancing::background::RuntimeClock;
-use pingora_load_balancing::discovery::DiscoverySource;
-use pingora_load_balancing::health_check::{NoRule, Rule};
-use pingora_load_balancing::selection::{Chosen, Kind};
+use pingora_load_balancing::discovery::{DiscoverySource, ServiceDiscovery};
+use pingora_load_balancing::health_check::{KeyRule, NoRule, Rule};
+use pingora_load_balancing::selection::{BackendSelection, Chosen, Kind};
 use pingora_load_balancing::{Backend, Backends, HealthRegistry, LoadBalancerGroup};
 use std::alloc::Global;
 use std::process::Abort;
@@ -208,11 +208,16 @@ fn play<G: AskedHandle, W: Abort + Wait + Clock + Copy, F: Fn(Deed) -> usize>(
 }
 
 // Does what needs the group itself; how many workers couldn't be started.
-fn act<R: Abort + Log + Threads + Wait + Clock + Copy + Send + Sync + 'static>(
-    rt: &R,
-    bench: &Bench<Group>,
-    deed: Deed,
-) -> usize {
+fn act<
+    S: BackendSelection + Send + Sync + 'static,
+    D: ServiceDiscovery + Drop,
+    R: KeyRule + Drop + Send + Sync + 'static,
+    W: Abort + Log + Threads + Wait + Clock + Copy + Send + Sync + 'static,
+>(rt: &W, bench: &Bench<LoadBalancerGroup<S, D, R, Reports>>, deed: Deed) -> usize
+where
+    S::Config: Send + Sync + 'static,
+    S::Walk: Send + Sync + 'static,
+{
     let (alloc, group) = (bench.alloc, &bench.group);
     match deed {
         Deed::Turn(slot) => {
@@ -231,8 +236,8 @@ fn act<R: Abort + Log + Threads + Wait + Clock + Copy + Send + Sync + 'static>(
 }
 
 // Notes what the group selects, whatever is done with it.
-fn played<R: Abort + Log + Threads + Wait + Clock + Copy + Send + Sync + 'static>(
-    rt: &R,
+fn played<W: Abort + Log + Threads + Wait + Clock + Copy + Send + Sync + 'static>(
+    rt: &W,
     bench: &Bench<Group>,
     text: &mut String,
 ) {
@@ -256,19 +261,28 @@ fn leaves<G: Drop, W: Abort + Wait>(
     write!(text, "{before} {after}").expect(rt, "refused");
 }
 
+// What the group selects, and what it leaves: its targets, and whether its workers end.
+fn told<W: Abort + Log + Threads + Wait + Clock + Copy + Send + Sync + 'static>(
+    rt: &W,
+    alloc: Global,
+    registry: &Arc<Registry>,
+) -> String {
+    let mut text = String::new(alloc);
+    let bench = Bench::new(rt, alloc, registry);
+    played(rt, &bench, &mut text);
+    let shared = Arc::try_clone(bench.group.shared()).expect(rt, "refused");
+    leaves(rt, bench, &**registry, &mut text);
+    write!(text, " {}", ends(rt, &*shared, 1000)).expect(rt, "refused");
+    text
+}
+
 // Each slot goes by its own kind: by loads, which outlive rebuilds to a membership without their backends, or by the ring's points. Both
 // avoid what the discovery, a caller or a check puts out; each backend is checked once for both. So do slots that workers rebuild.
 #[test]
 fn slots_of_two_kinds(rt: HostRuntime) {
-    let alloc = rt.alloc();
-    let registry = HealthRegistry::new(alloc).expect(&rt, "refused");
-    let registry = Arc::new(alloc, registry).expect(&rt, "refused");
-    let mut text = String::new(alloc);
-    let bench = Bench::new(&rt, alloc, &registry);
-    played(&rt, &bench, &mut text);
-    let shared = Arc::try_clone(bench.group.shared()).expect(&rt, "refused");
-    leaves(&rt, bench, &*registry, &mut text);
-    write!(text, " {}", ends(&rt, &*shared, 1000)).expect(&rt, "refused");
+    let registry = HealthRegistry::new(rt.alloc()).expect(&rt, "refused");
+    let registry = Arc::new(rt.alloc(), registry).expect(&rt, "refused");
+    let text = told(&rt, rt.alloc(), &registry);
     let wanted = " none none\n \
         1.0.0.2:80/1 1.0.0.2:80/1\n \
         1.0.0.3:80/1 1.0.0.2:80/1\n \
