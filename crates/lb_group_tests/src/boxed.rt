@@ -1,5 +1,5 @@
 //! A group, by the types' defaults alone: its discovery and its check are a caller's, each in a box.
-use crate::fixtures::{FIRST, Words, listed, new_words, note, reports};
+use crate::fixtures::{FIRST, Words, listed, new_check, new_words, note};
 use lb_crowd::turns::{Still, turn};
 use log::Log;
 use pingora_load_balancing::background::shutdown_pair;
@@ -83,7 +83,7 @@ fn grouped<W: Abort + Log + Threads + Wait + Sync>(
 fn boxes_of_a_group(rt: HostRuntime) {
     let alloc = rt.alloc();
     let words = new_words(&rt, alloc, false);
-    let check: BoxedCheck = Box::new(alloc, reports(&rt, &words)).expect(&rt, "refused");
+    let check: BoxedCheck = Box::new(alloc, new_check(&rt, &words)).expect(&rt, "refused");
     let registry: HealthRegistry = HealthRegistry::new(alloc).expect(&rt, "refused");
     registry.set_health_check(&rt, check).expect(&rt, "refused");
     let registry = Arc::new(alloc, registry).expect(&rt, "refused");

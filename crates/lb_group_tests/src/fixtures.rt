@@ -113,7 +113,7 @@ impl HealthCheck for Reports {
 }
 
 /// Returns that check, with these words.
-pub fn reports<W: Abort>(rt: &W, words: &Arc<Words>) -> Reports {
+pub fn new_check<W: Abort>(rt: &W, words: &Arc<Words>) -> Reports {
     Reports {
         words: Arc::try_clone(words).expect(rt, "refused"),
     }

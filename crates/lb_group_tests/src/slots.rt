@@ -1,6 +1,8 @@
 //! A group of two slots of two kinds, whose turns the test takes, and then workers: what each slot selects, by loads, by the flags of its
 //! discovery and of its caller, and by a pass of checks; and that it leaves while its registry is held.
-use crate::fixtures::{DISABLES, ENABLES, InTurn, ROWS, Reports, Words, new_words, note, reports};
+use crate::fixtures::{
+    DISABLES, ENABLES, InTurn, ROWS, Reports, Words, new_check, new_words, note,
+};
 use lb_crowd::calls::AskedHandle;
 use lb_crowd::crowd::ends;
 use lb_crowd::handle_asks;
@@ -226,7 +228,7 @@ where
         }
         Deed::Check => {
             group
-                .set_health_check(rt, reports(rt, &bench.words))
+                .set_health_check(rt, new_check(rt, &bench.words))
                 .expect(rt, "refused");
             group.run_health_check(rt, alloc).expect(rt, "refused");
             0
