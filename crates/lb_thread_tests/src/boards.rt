@@ -1,8 +1,7 @@
 //! A board and passes over it, which several threads use at once: no reading waits, falls, or is below that of a pass that was met.
 ghost use Rattle.std.specs.Prelude.{◌≡◌};
 
-use pingora_load_balancing::GroupPass;
-use pingora_load_balancing::plain::{Board, WritingPass};
+use lb_rebuild::board::{Board, GroupPass, WritingPass};
 use std::alloc::Global;
 use std::thread;
 use std::thread::{Threads, join};

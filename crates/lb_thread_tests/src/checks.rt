@@ -1,10 +1,13 @@
 //! Passes of checks over a registry that threads share.
 use crate::asserted::assert_same;
+use lb_health_core::error::CheckError;
+use lb_health_core::health_check::HealthCheck;
+use lb_health_core::keys::Rule;
+use lb_select_base::backend::Backend;
+use lb_select_base::refusal::Refusal;
+use lb_threads_core::keyed::{KeyedRegistry, NoRule, keyed_by_identity};
+use lb_threads_core::registry::HealthRegistry;
 use log::Log;
-use pingora_load_balancing::health_check::{
-    CheckError, HealthCheck, KeyedRegistry, NoRule, Rule, keyed_by_identity,
-};
-use pingora_load_balancing::{Backend, HealthRegistry, Refusal};
 use std::alloc::Global;
 use std::collections::BTreeSet;
 use std::process::Abort;

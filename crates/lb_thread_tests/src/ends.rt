@@ -1,8 +1,7 @@
 //! The two ends of a signal, and of a notifier, for the tests of services and of runs.
-use pingora_load_balancing::Refusal;
-use pingora_load_balancing::background::{
-    ReadyWatch, ServiceReadyNotifier, ShutdownSignal, ShutdownWatch, ready_pair, shutdown_pair,
-};
+use lb_background::ready::{ReadyWatch, ServiceReadyNotifier, ready_pair};
+use lb_background::shutdown::{ShutdownSignal, ShutdownWatch, shutdown_pair};
+use lb_select_base::refusal::Refusal;
 use std::alloc::Global;
 
 /// The ends; the signal and the notifier can be taken.

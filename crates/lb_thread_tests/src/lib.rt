@@ -1,9 +1,6 @@
-//! Tests of what threads share: locks, boards, checks, registries, services, balancers, and groups with checks. There is no code here but
-//! the tests'.
+//! Tests of what threads share: locks, boards, checks, registries, services, and balancers. There is no code here but the tests'.
 #![tactic(auto)]
 
-#[cfg(test)]
-mod asked_groups;
 #[cfg(test)]
 mod asserted;
 #[cfg(test)]
@@ -28,9 +25,5 @@ mod service_fixtures;
 mod services;
 #[cfg(test)]
 mod signals;
-#[cfg(test)]
-mod slots;
-#[cfg(test)]
-mod turns;
 #[cfg(test)]
 mod views;

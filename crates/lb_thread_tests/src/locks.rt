@@ -1,8 +1,8 @@
 //! Locks, gates and generators that several threads use at once.
+use lb_threads_core::gate::SelectorRebuildGate;
 use lb_threads_core::generators::SharedGenerator;
 use lb_threads_core::lock::KeyedLock;
 use lb_threads_core::rule::LockRule;
-use pingora_load_balancing::SelectorRebuildGate;
 use std::sync::Wait;
 use std::thread;
 use std::thread::{Threads, join};

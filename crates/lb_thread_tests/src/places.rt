@@ -1,6 +1,7 @@
 //! Places of words: a backend without one is asked for under locks by each selection.
+use lb_select_base::backend::{Backend, Ext, InetAddr, SocketAddr};
+use lb_select_base::refusal::Refusal;
 use lb_threads_core::marks::{marks_of, place_of};
-use pingora_load_balancing::{Backend, Ext, InetAddr, Refusal, SocketAddr};
 use std::alloc::Global;
 use std::collections::BTreeSet;
 

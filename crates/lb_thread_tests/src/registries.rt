@@ -2,12 +2,14 @@
 
 use crate::balancer::fixtures::listed;
 use crate::service_fixtures::Down;
+use lb_health_core::health_check::BoxedCheck;
+use lb_health_core::keys::{KeyRule, Rule};
+use lb_health_view::discovery::{BoxedDiscovery, DiscoverySource, Static};
+use lb_select_base::backend::{Backend, InetAddr, SocketAddr};
+use lb_threads_core::backends::{BackendView, Backends};
+use lb_threads_core::keyed::{Equivalence, Numbered};
+use lb_threads_core::registry::HealthRegistry;
 use log::Log;
-use pingora_load_balancing::discovery::{BoxedDiscovery, DiscoverySource, Static};
-use pingora_load_balancing::health_check::{BoxedCheck, Equivalence, KeyRule, Numbered, Rule};
-use pingora_load_balancing::{
-    Backend, BackendView, Backends, HealthRegistry, InetAddr, SocketAddr,
-};
 use std::alloc::Global;
 use std::collections::BTreeSet;
 use std::process::Abort;

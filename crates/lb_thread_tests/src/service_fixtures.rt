@@ -2,11 +2,15 @@
 ghost use Rattle.std.specs.Prelude.{◌≡◌};
 
 use crate::ends::Ends;
-use pingora_load_balancing::background::{HealthCheckService, ShutdownWatch};
-use pingora_load_balancing::health_check::{
-    CheckError, HealthCheck, KeyedRegistry, NoRule, Rule, keyed_by_identity,
-};
-use pingora_load_balancing::{Backend, HealthRegistry, MomentSource};
+use lb_background::service::HealthCheckService;
+use lb_background::shutdown::ShutdownWatch;
+use lb_health_core::error::CheckError;
+use lb_health_core::health_check::HealthCheck;
+use lb_health_core::keys::Rule;
+use lb_select_base::backend::Backend;
+use lb_select_base::moments::MomentSource;
+use lb_threads_core::keyed::{KeyedRegistry, NoRule, keyed_by_identity};
+use lb_threads_core::registry::HealthRegistry;
 use std::alloc::Global;
 use std::collections::BTreeSet;
 use std::process::Abort;

@@ -2,10 +2,13 @@
 use crate::asserted::assert_same;
 use crate::ends::{Ends, send_end};
 use crate::service_fixtures::{Checked, ServiceBench, Ticks, counted, one_backend, registry_of};
+use lb_background::ready::ReadyWatch;
+use lb_background::shutdown::ShutdownSignal;
+use lb_select_base::moments::MomentSource;
+use lb_select_base::refusal::Refusal;
+use lb_threads_core::clock::RuntimeClock;
 use log::sink::Locked;
 use log::{Level, Log, Logged};
-use pingora_load_balancing::background::{ReadyWatch, RuntimeClock, ShutdownSignal};
-use pingora_load_balancing::{MomentSource, Refusal};
 use std::alloc::Global;
 use std::collections::BTreeSet;
 use std::process::Abort;

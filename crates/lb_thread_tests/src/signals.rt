@@ -2,10 +2,9 @@
 ghost use Rattle.std.specs.Prelude.{◌≡◌};
 
 use crate::service_fixtures::Ticks;
-use pingora_load_balancing::background::{
-    ShutdownSignal, ShutdownWatch, ready_pair, shutdown_pair,
-};
-use pingora_load_balancing::schedule::Event;
+use lb_background::event::Event;
+use lb_background::ready::ready_pair;
+use lb_background::shutdown::{ShutdownSignal, ShutdownWatch, shutdown_pair};
 use std::alloc::Global;
 use std::process::Abort;
 use std::sync::Wait;

@@ -1,12 +1,16 @@
 //! Views that share a registry: whose health they share, whose flags they don't, what an update passes to its caller, and how they leave.
 use crate::asserted::assert_same;
-use lb_threads_core::registry::{put_registry, take_registry};
+use lb_health_core::error::CheckError;
+use lb_health_core::health_check::HealthCheck;
+use lb_health_core::keys::Rule;
+use lb_health_view::discovery::{Discovered, DiscoverySource, ServiceDiscovery};
+use lb_health_view::view::Settings;
+use lb_select_base::backend::{Backend, InetAddr, SocketAddr};
+use lb_select_base::refusal::Refusal;
+use lb_threads_core::backends::{BackendView, Backends};
+use lb_threads_core::keyed::NoRule;
+use lb_threads_core::registry::{HealthRegistry, put_registry, take_registry};
 use log::Log;
-use pingora_load_balancing::discovery::{Discovered, DiscoverySource, ServiceDiscovery, Settings};
-use pingora_load_balancing::health_check::{CheckError, HealthCheck, NoRule, Rule};
-use pingora_load_balancing::{
-    Backend, BackendView, Backends, HealthRegistry, InetAddr, Refusal, SocketAddr,
-};
 use std::alloc::Global;
 use std::collections::BTreeSet;
 use std::process::Abort;

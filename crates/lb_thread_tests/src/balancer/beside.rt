@@ -2,10 +2,14 @@
 use crate::balancer::fixtures::{
     Bench, GROWN, InTurn, ROWS, SecondDown, TestedRegistry, UP, is_second, waited,
 };
+use lb_background::lending::LendsToThreads;
+use lb_balancer::reader::BalancerReader;
+use lb_health_core::keys::Rule;
+use lb_select::selection::RoundRobin;
+use lb_select_base::backend::Backend;
+use lb_threads_core::keyed::NoRule;
+use lb_threads_core::registry::HealthRegistry;
 use log::Log;
-use pingora_load_balancing::health_check::{NoRule, Rule};
-use pingora_load_balancing::prelude::RoundRobin;
-use pingora_load_balancing::{Backend, BalancerReader, HealthRegistry};
 use std::process::Abort;
 use std::sync::atomic::Ordering::SeqCst;
 use std::sync::{Arc, Wait};
@@ -52,7 +56,7 @@ fn disables_meanwhile<R: Abort + Wait + Clock + Copy + Drop>(
 ) -> bool {
     let came = waited(rt, &bench.line.asked, 1);
     let first = at(rt, bench, "1.0.0.1:80");
-    bench.balancer.backends().set_enable(rt, &first, false);
+    bench.balancer.flag(rt, &first, false);
     bench.line.open.store(1, SeqCst);
     came
 }
@@ -62,9 +66,10 @@ fn ready<R: Abort + Wait + Clock + Copy + Drop>(
     rt: &R,
     bench: &Bench<RoundRobin, R>,
 ) -> (bool, bool) {
-    let backends = bench.balancer.backends();
-    let first = backends.ready(rt, &at(rt, bench, "1.0.0.1:80"));
-    (first, backends.ready(rt, &at(rt, bench, "1.0.0.4:80")))
+    let balancer = &bench.balancer;
+    let first = balancer.newest_ready(rt, &at(rt, bench, "1.0.0.1:80"));
+    let fourth = balancer.newest_ready(rt, &at(rt, bench, "1.0.0.4:80"));
+    (first, fourth)
 }
 
 // What is shown now, whose generation is at least this one, and whether it is of one membership: each selected one is a member of it.

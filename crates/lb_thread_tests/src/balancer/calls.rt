@@ -3,10 +3,12 @@ use crate::balancer::fixtures::{
     Bench, DISABLES, ENABLES, FAULT, HEAVY, InTurn, ROWS, SecondDown, note,
 };
 use crate::service_fixtures::Ticks;
+use lb_balancer::reader::BalancerReader;
+use lb_health_core::keys::Rule;
+use lb_select::selection::RoundRobin;
+use lb_select_base::backend::Backend;
+use lb_threads_core::keyed::NoRule;
 use log::Log;
-use pingora_load_balancing::health_check::{NoRule, Rule};
-use pingora_load_balancing::prelude::RoundRobin;
-use pingora_load_balancing::{Backend, BalancerReader};
 use std::alloc::Global;
 use std::process::Abort;
 use std::sync::Wait;
@@ -94,7 +96,6 @@ fn checks<R: Abort + Log + Threads + Wait + Clock + Copy + Send + Sync + Drop>(
     let found = reader.select(rt, alloc, b"k", 1).expect(rt, "refused");
     note(rt, text, &found);
     balancer
-        .backends()
         .run_health_check(rt, alloc, false)
         .expect(rt, "refused");
     write!(text, " checked {}", bench.checks.asked.load(SeqCst)).expect(rt, "refused");

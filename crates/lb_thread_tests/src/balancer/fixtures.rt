@@ -1,11 +1,17 @@
 //! A discovery, a check and a bench for the tests of shared balancers.
 use crate::service_fixtures::Ticks;
-use pingora_load_balancing::discovery::{Discovered, DiscoverySource, ServiceDiscovery, Settings};
-use pingora_load_balancing::health_check::{CheckError, HealthCheck, NoRule, Rule};
-use pingora_load_balancing::selection::BackendSelection;
-use pingora_load_balancing::{
-    Backend, Backends, HealthRegistry, InetAddr, LoadBalancer, Refusal, SocketAddr,
-};
+use lb_balancer::load_balancer::LoadBalancer;
+use lb_health_core::error::CheckError;
+use lb_health_core::health_check::HealthCheck;
+use lb_health_core::keys::Rule;
+use lb_health_view::discovery::{Discovered, DiscoverySource, ServiceDiscovery};
+use lb_health_view::view::Settings;
+use lb_select_base::backend::{Backend, InetAddr, SocketAddr};
+use lb_select_base::refusal::Refusal;
+use lb_select_base::walk::BackendSelection;
+use lb_threads_core::backends::Backends;
+use lb_threads_core::keyed::NoRule;
+use lb_threads_core::registry::HealthRegistry;
 use std::alloc::Global;
 use std::collections::BTreeSet;
 use std::process::Abort;

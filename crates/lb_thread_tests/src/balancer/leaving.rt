@@ -1,11 +1,15 @@
 //! Balancers that share a registry, and leave it.
 use crate::balancer::fixtures::{SecondDown, Tested, listed, note};
 use crate::service_fixtures::Ticks;
-use lb_threads_core::registry::{put_registry, take_registry};
-use pingora_load_balancing::discovery::{DiscoverySource, Static};
-use pingora_load_balancing::health_check::{NoRule, Rule};
-use pingora_load_balancing::prelude::RoundRobin;
-use pingora_load_balancing::{Backend, Backends, HealthRegistry, LendsToThreads, LoadBalancer};
+use lb_background::lending::LendsToThreads;
+use lb_balancer::load_balancer::LoadBalancer;
+use lb_health_core::keys::Rule;
+use lb_health_view::discovery::{DiscoverySource, Static};
+use lb_select::selection::RoundRobin;
+use lb_select_base::backend::Backend;
+use lb_threads_core::backends::Backends;
+use lb_threads_core::keyed::NoRule;
+use lb_threads_core::registry::{HealthRegistry, put_registry, take_registry};
 use std::alloc::Global;
 use std::process::Abort;
 use std::sync::{Arc, Wait};

@@ -1,8 +1,10 @@
 //! Loads that are set while threads select: what goes by them, and that no selection holds their lock while it asks.
 use crate::balancer::fixtures::{Bench, InTurn, SecondDown, note};
-use pingora_load_balancing::health_check::{NoRule, Rule};
-use pingora_load_balancing::selection::LeastConnections;
-use pingora_load_balancing::{Backend, BalancerReader};
+use lb_balancer::reader::BalancerReader;
+use lb_health_core::keys::Rule;
+use lb_select::least::LeastConnections;
+use lb_select_base::backend::Backend;
+use lb_threads_core::keyed::NoRule;
 use std::alloc::Global;
 use std::process::Abort;
 use std::sync::Wait;

@@ -3,13 +3,13 @@ use crate::asserted::assert_same;
 use crate::balancer::fixtures::{Bench, FAULT, ROWS, waited};
 use crate::ends::{Ends, send_end};
 use crate::service_fixtures::Ticks;
+use lb_background::ready::{ReadyWatch, ServiceReadyNotifier};
+use lb_background::shutdown::{ShutdownSignal, ShutdownWatch};
+use lb_select::selection::RoundRobin;
+use lb_select_base::backend::Backend;
+use lb_threads_core::clock::RuntimeClock;
 use log::sink::Locked;
 use log::{Level, Log, Logged};
-use pingora_load_balancing::Backend;
-use pingora_load_balancing::background::{
-    ReadyWatch, RuntimeClock, ServiceReadyNotifier, ShutdownSignal, ShutdownWatch,
-};
-use pingora_load_balancing::prelude::RoundRobin;
 use std::process::Abort;
 use std::sync::Wait;
 use std::sync::atomic::Ordering::SeqCst;

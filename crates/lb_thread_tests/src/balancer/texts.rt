@@ -1,8 +1,11 @@
 //! Balancers that are made of texts: what they serve, and why there are none.
 use crate::balancer::fixtures::{Tested, note};
 use crate::service_fixtures::Ticks;
-use pingora_load_balancing::prelude::RoundRobin;
-use pingora_load_balancing::{Backend, LendsToThreads, LoadBalancer, Refusal};
+use lb_background::lending::LendsToThreads;
+use lb_balancer::load_balancer::LoadBalancer;
+use lb_select::selection::RoundRobin;
+use lb_select_base::backend::Backend;
+use lb_select_base::refusal::Refusal;
 use std::alloc::Global;
 use std::net::Net;
 use std::process::Abort;

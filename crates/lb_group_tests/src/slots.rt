@@ -1,19 +1,22 @@
 //! A group of two slots of two kinds, whose turns the test takes, and then workers: what each slot selects, by loads, by the flags of its
 //! discovery and of its caller, and by a pass of checks; and that it leaves while its registry is held.
-use crate::asked_groups::{AskedGroup, are_newest, select, set_enable, set_load, take_turn};
-use crate::balancer::fixtures::{
-    DISABLES, ENABLES, InTurn, Line, ROWS, SecondDown, TestedRegistry, in_turn, note, second_down,
+use crate::fixtures::{
+    DISABLES, ENABLES, InTurn, ROWS, Reports, Words, new_check, new_words, note,
 };
-use crate::service_fixtures::Ticks;
-use crate::turns::ended;
+use lb_crowd::calls::AskedHandle;
+use lb_crowd::crowd::ends;
+use lb_crowd::handle_asks;
+use lb_crowd::turns::{Still, turn};
 use lb_threads_core::registry::{put_registry, take_registry};
 use log::Log;
 use pingora_load_balancing::background::RuntimeClock;
-use pingora_load_balancing::health_check::{NoRule, Rule};
-use pingora_load_balancing::selection::{Chosen, Kind};
+use pingora_load_balancing::discovery::{DiscoverySource, ServiceDiscovery};
+use pingora_load_balancing::health_check::{KeyRule, NoRule, Rule};
+use pingora_load_balancing::selection::{BackendSelection, Chosen, Kind};
 use pingora_load_balancing::{Backend, Backends, HealthRegistry, LoadBalancerGroup};
 use std::alloc::Global;
 use std::process::Abort;
+use std::sync::atomic::AtomicU64;
 use std::sync::atomic::Ordering::SeqCst;
 use std::sync::{Arc, Wait};
 use std::thread;
@@ -21,23 +24,28 @@ use std::thread::Threads;
 use std::time::{Clock, Duration};
 
 // A group whose first slot goes by loads, and whose second one is a ring.
-type Group<R> = LoadBalancerGroup<Chosen, InTurn<R>, Rule<NoRule>, SecondDown<R>>;
+type Group = LoadBalancerGroup<Chosen, InTurn, Rule<NoRule>, Reports>;
 
-// The group, and the lines to its discovery and to its check.
+type Registry = HealthRegistry<Rule<NoRule>, Reports>;
+
+// The group, and the words to its discovery and to its check, by which the second backend is down.
 #[derive(Drop)]
 struct Bench<G> {
     alloc: Global,
-    line: Arc<Line>,
-    checks: Arc<Line>,
+    words: Arc<Words>,
     group: G,
 }
 
-impl<R: Abort + Wait + Clock + Copy + Drop> Bench<Group<R>> {
+impl Bench<Group> {
     // With a view in this registry, before its first update.
-    fn new(rt: &R, alloc: Global, registry: &Arc<TestedRegistry<R>>) -> Bench<Group<R>> {
-        let line = Arc::new(alloc, Line::new()).expect(rt, "refused");
+    fn new<W: Abort + Wait>(rt: &W, alloc: Global, registry: &Arc<Registry>) -> Bench<Group> {
+        let words = new_words(rt, alloc, true);
+        let found = DiscoverySource::Boxed(InTurn {
+            words: Arc::try_clone(&words).expect(rt, "refused"),
+            turn: AtomicU64::new(0),
+        });
         let shared = Arc::try_clone(registry).expect(rt, "refused");
-        let backends = Backends::new_with_health_registry(rt, alloc, in_turn(rt, &line), shared);
+        let backends = Backends::new_with_health_registry(rt, alloc, found, shared);
         let backends = backends.expect(rt, "refused");
         let mut configs = Vec::new(alloc);
         for kind in &[Kind::Least, Kind::Ketama] {
@@ -46,23 +54,33 @@ impl<R: Abort + Wait + Clock + Copy + Drop> Bench<Group<R>> {
         let group = LoadBalancerGroup::from_backends_with_configs(rt, alloc, backends, configs);
         Bench {
             alloc,
-            line,
-            checks: Arc::new(alloc, Line::new()).expect(rt, "refused"),
+            words,
             group: group.expect(rt, "refused"),
         }
     }
 }
 
-impl<G: AskedGroup> Bench<G> {
+// What needs the group itself.
+#[derive(Clone, Copy)]
+enum Deed {
+    // Takes a turn for a slot.
+    Turn(usize),
+    // Sets the check, and makes a pass.
+    Check,
+    // Starts the workers.
+    StartWorkers,
+}
+
+impl<G: AskedHandle> Bench<G> {
     // The backend of weight 1 at an address.
     fn at<W: Abort>(&self, rt: &W, address: &str) -> Backend {
         Backend::new(self.alloc, address).expect(rt, "refused")
     }
 
-    // Notes what each slot selects.
+    // Notes what each slot selects, by a key whose first four points on the ring aren't all the second backend's.
     fn note<W: Abort + Wait>(&self, rt: &W, text: &mut String) {
         for slot in 0..2 {
-            let found = select(rt, self.alloc, &self.group, slot, 9);
+            let found = handle_asks::select(rt, self.alloc, &self.group, slot, b"h");
             note(rt, text, &found.expect(rt, "refused"));
         }
         text.push('\n').expect(rt, "refused");
@@ -70,14 +88,20 @@ impl<G: AskedGroup> Bench<G> {
 
     // Updates where the discovery answers this, rebuilds both slots, and notes what each selects. A slot's second turn destroys what its
     // first one retired.
-    fn update<W: Abort + Wait>(&self, rt: &W, answers: u64, text: &mut String) {
-        self.line.begin(true, answers);
-        let mut clock = Ticks { next: 0, step: 5 };
-        self.group
-            .update(rt, self.alloc, &mut clock)
-            .expect(rt, "refused");
+    fn update<W: Abort + Wait, F: Fn(Deed) -> usize>(
+        &self,
+        rt: &W,
+        does: &F,
+        answers: u64,
+        text: &mut String,
+    )
+        requires { F.IsAlwaysCallable does.now }
+    {
+        self.words.answers.store(answers, SeqCst);
+        let updated = handle_asks::update(rt, self.alloc, &self.group, &mut Still {});
+        updated.expect(rt, "refused");
         for slot in &[0, 0, 1, 1] {
-            take_turn(rt, self.alloc, &self.group, *slot).expect(rt, "refused");
+            does(Deed::Turn(*slot));
         }
         self.note(rt, text);
     }
@@ -85,13 +109,13 @@ impl<G: AskedGroup> Bench<G> {
     // Enables or disables the second backend, and notes what each slot selects.
     fn enable<W: Abort + Wait>(&self, rt: &W, enabled: bool, text: &mut String) {
         let second = self.at(rt, "1.0.0.2:80");
-        set_enable(rt, self.alloc, &self.group, &second, enabled);
+        handle_asks::set_enable(rt, self.alloc, &self.group, &second, enabled);
         self.note(rt, text);
     }
 }
 
 // Sets the load of the backend at this address; what each slot selects then.
-fn load<G: AskedGroup, W: Abort + Wait>(
+fn load<G: AskedHandle, W: Abort + Wait>(
     rt: &W,
     bench: &Bench<G>,
     address: &str,
@@ -99,34 +123,39 @@ fn load<G: AskedGroup, W: Abort + Wait>(
     text: &mut String,
 ) {
     let backend = bench.at(rt, address);
-    set_load(rt, bench.alloc, &bench.group, &backend, load).expect(rt, "refused");
+    handle_asks::set_load(rt, bench.alloc, &bench.group, &backend, load).expect(rt, "refused");
     bench.note(rt, text);
 }
 
 // Loads before the first rebuild, after it, and after rebuilds to a membership without their backends and back.
-fn loads<G: AskedGroup, W: Abort + Wait>(rt: &W, bench: &Bench<G>, text: &mut String) {
+fn loads<G: AskedHandle, W: Abort + Wait, F: Fn(Deed) -> usize>(
+    rt: &W,
+    bench: &Bench<G>,
+    does: &F,
+    text: &mut String,
+)
+    requires { F.IsAlwaysCallable does.now }
+{
     load(rt, bench, "1.0.0.1:80", 7, text);
-    bench.update(rt, ROWS, text);
+    bench.update(rt, does, ROWS, text);
     load(rt, bench, "1.0.0.2:80", 9, text);
-    bench.update(rt, ROWS, text);
-    bench.update(rt, ROWS, text);
+    bench.update(rt, does, ROWS, text);
+    bench.update(rt, does, ROWS, text);
     load(rt, bench, "1.0.0.2:80", 0, text);
 }
 
 // Updates, and waits until workers have rebuilt both slots, for ten seconds at most; what each selects then.
-fn rebuilt<G: AskedGroup, W: Abort + Wait + Clock + Copy>(
+fn rebuilt<G: AskedHandle, W: Abort + Wait + Clock + Copy>(
     rt: &W,
     bench: &Bench<G>,
     text: &mut String,
 ) {
-    bench.line.begin(true, ROWS);
+    bench.words.answers.store(ROWS, SeqCst);
     let mut clock = RuntimeClock::new(*rt);
-    bench
-        .group
-        .update(rt, bench.alloc, &mut clock)
-        .expect(rt, "refused");
+    let updated = handle_asks::update(rt, bench.alloc, &bench.group, &mut clock);
+    let newest = updated.expect(rt, "refused");
     for _ in 0..1000 {
-        if are_newest(rt, bench.alloc, &bench.group) {
+        if handle_asks::are_ready_for(rt, bench.alloc, &bench.group, newest) {
             break;
         }
         thread::sleep(rt, Duration::from_millis(10));
@@ -135,7 +164,7 @@ fn rebuilt<G: AskedGroup, W: Abort + Wait + Clock + Copy>(
 }
 
 // Loads that are set while workers run count at once, and still after the workers rebuilt to a membership without their backends and back.
-fn loads_beside_workers<G: AskedGroup, W: Abort + Wait + Clock + Copy>(
+fn loads_beside_workers<G: AskedHandle, W: Abort + Wait + Clock + Copy>(
     rt: &W,
     bench: &Bench<G>,
     text: &mut String,
@@ -147,18 +176,9 @@ fn loads_beside_workers<G: AskedGroup, W: Abort + Wait + Clock + Copy>(
     rebuilt(rt, bench, text);
 }
 
-// What needs the group itself.
-#[derive(Clone, Copy)]
-enum Deed {
-    // Sets the check, and makes a pass.
-    Check,
-    // Starts the workers.
-    StartWorkers,
-}
-
 // The second backend is disabled by the discovery and enabled by it, and disabled by a caller; a pass of checks finds it down, and then the
 // caller enables it.
-fn flags<G: AskedGroup, W: Abort + Wait, F: Fn(Deed) -> usize>(
+fn flags<G: AskedHandle, W: Abort + Wait, F: Fn(Deed) -> usize>(
     rt: &W,
     bench: &Bench<G>,
     does: &F,
@@ -166,16 +186,16 @@ fn flags<G: AskedGroup, W: Abort + Wait, F: Fn(Deed) -> usize>(
 )
     requires { F.IsAlwaysCallable does.now }
 {
-    bench.update(rt, DISABLES, text);
-    bench.update(rt, ENABLES, text);
+    bench.update(rt, does, DISABLES, text);
+    bench.update(rt, does, ENABLES, text);
     bench.enable(rt, false, text);
     does(Deed::Check);
-    write!(text, "{}", bench.checks.asked.load(SeqCst)).expect(rt, "refused");
+    write!(text, "{}", bench.words.checks.load(SeqCst)).expect(rt, "refused");
     bench.enable(rt, true, text);
 }
 
 // All that is done with the group. `does` does what needs the group itself.
-fn play<G: AskedGroup, W: Abort + Wait + Clock + Copy, F: Fn(Deed) -> usize>(
+fn play<G: AskedHandle, W: Abort + Wait + Clock + Copy, F: Fn(Deed) -> usize>(
     rt: &W,
     bench: &Bench<G>,
     does: &F,
@@ -183,23 +203,32 @@ fn play<G: AskedGroup, W: Abort + Wait + Clock + Copy, F: Fn(Deed) -> usize>(
 )
     requires { F.IsAlwaysCallable does.now }
 {
-    loads(rt, bench, text);
+    loads(rt, bench, does, text);
     flags(rt, bench, does, text);
     write!(text, "{}", does(Deed::StartWorkers)).expect(rt, "refused");
     loads_beside_workers(rt, bench, text);
 }
 
 // Does what needs the group itself; how many workers couldn't be started.
-fn act<R: Abort + Log + Threads + Wait + Clock + Copy + Send + Sync + Drop + 'static>(
-    rt: &R,
-    bench: &Bench<Group<R>>,
-    deed: Deed,
-) -> usize {
+fn act<
+    S: BackendSelection + Send + Sync + 'static,
+    D: ServiceDiscovery + Drop,
+    R: KeyRule + Drop + Send + Sync + 'static,
+    W: Abort + Log + Threads + Wait + Clock + Copy + Send + Sync + 'static,
+>(rt: &W, bench: &Bench<LoadBalancerGroup<S, D, R, Reports>>, deed: Deed) -> usize
+where
+    S::Config: Send + Sync + 'static,
+    S::Walk: Send + Sync + 'static,
+{
     let (alloc, group) = (bench.alloc, &bench.group);
     match deed {
+        Deed::Turn(slot) => {
+            turn(rt, alloc, &**group.shared(), slot).expect(rt, "refused");
+            0
+        }
         Deed::Check => {
             group
-                .set_health_check(rt, second_down(rt, &bench.checks))
+                .set_health_check(rt, new_check(rt, &bench.words))
                 .expect(rt, "refused");
             group.run_health_check(rt, alloc).expect(rt, "refused");
             0
@@ -209,9 +238,9 @@ fn act<R: Abort + Log + Threads + Wait + Clock + Copy + Send + Sync + Drop + 'st
 }
 
 // Notes what the group selects, whatever is done with it.
-fn played<R: Abort + Log + Threads + Wait + Clock + Copy + Send + Sync + Drop + 'static>(
-    rt: &R,
-    bench: &Bench<Group<R>>,
+fn played<W: Abort + Log + Threads + Wait + Clock + Copy + Send + Sync + 'static>(
+    rt: &W,
+    bench: &Bench<Group>,
     text: &mut String,
 ) {
     let does = |deed: Deed| act(rt, bench, deed);
@@ -219,10 +248,10 @@ fn played<R: Abort + Log + Threads + Wait + Clock + Copy + Send + Sync + Drop + 
 }
 
 // Drops the group while its registry is out of its lock; how many targets there are before and after.
-fn leaves<G: Drop, R: Abort + Wait + Clock + Drop>(
-    rt: &R,
+fn leaves<G: Drop, W: Abort + Wait>(
+    rt: &W,
     bench: Bench<G>,
-    registry: &TestedRegistry<R>,
+    registry: &Registry,
     text: &mut String,
 ) {
     let alloc = bench.alloc;
@@ -234,19 +263,28 @@ fn leaves<G: Drop, R: Abort + Wait + Clock + Drop>(
     write!(text, "{before} {after}").expect(rt, "refused");
 }
 
+// What the group selects, and what it leaves: its targets, and whether its workers end.
+fn told<W: Abort + Log + Threads + Wait + Clock + Copy + Send + Sync + 'static>(
+    rt: &W,
+    alloc: Global,
+    registry: &Arc<Registry>,
+) -> String {
+    let mut text = String::new(alloc);
+    let bench = Bench::new(rt, alloc, registry);
+    played(rt, &bench, &mut text);
+    let shared = Arc::try_clone(bench.group.shared()).expect(rt, "refused");
+    leaves(rt, bench, &**registry, &mut text);
+    write!(text, " {}", ends(rt, &*shared, 1000)).expect(rt, "refused");
+    text
+}
+
 // Each slot goes by its own kind: by loads, which outlive rebuilds to a membership without their backends, or by the ring's points. Both
 // avoid what the discovery, a caller or a check puts out; each backend is checked once for both. So do slots that workers rebuild.
 #[test]
 fn slots_of_two_kinds(rt: HostRuntime) {
-    let alloc = rt.alloc();
-    let registry = HealthRegistry::new(alloc).expect(&rt, "refused");
-    let registry = Arc::new(alloc, registry).expect(&rt, "refused");
-    let mut text = String::new(alloc);
-    let bench = Bench::new(&rt, alloc, &registry);
-    played(&rt, &bench, &mut text);
-    let shared = Arc::try_clone(bench.group.shared()).expect(&rt, "refused");
-    leaves(&rt, bench, &*registry, &mut text);
-    write!(text, " {}", ended(&rt, &*shared)).expect(&rt, "refused");
+    let registry = HealthRegistry::new(rt.alloc()).expect(&rt, "refused");
+    let registry = Arc::new(rt.alloc(), registry).expect(&rt, "refused");
+    let text = told(&rt, rt.alloc(), &registry);
     let wanted = " none none\n \
         1.0.0.2:80/1 1.0.0.2:80/1\n \
         1.0.0.3:80/1 1.0.0.2:80/1\n \
