@@ -168,7 +168,6 @@ impl<
         let built = first_built(rt, alloc, shared, &config)?;
         let view = registered_view(rt, alloc, shared)?;
         let view_id = view.id();
-        let owner = shared.own_view(rt, alloc, view_id)?;
         let origin = Origin {
             discovery,
             config,
@@ -176,8 +175,8 @@ impl<
             view_id,
             registry,
         };
-        let places = places_over(rt, alloc, Serving::new(view, built), &origin)?;
-        Ok(Balancing::behind(origin, owner, places, None))
+        let made = Balancing::begun(rt, alloc, origin, Serving::new(view, built), None)?;
+        Ok(made)
     }
 
     // A balancer that serves this at first.

@@ -439,6 +439,7 @@ impl<S: BackendSelection, R: KeyRule + Drop, C: HealthCheck + Drop> SharedGroup<
     }
 
     // Whether a backend is ready for a reader of the words' generation: as its word says, and where none does, as group and registry say.
+    #[inline]
     pub(crate) fn judge<W: Wait>(
         &self,
         rt: &W,
@@ -450,25 +451,9 @@ impl<S: BackendSelection, R: KeyRule + Drop, C: HealthCheck + Drop> SharedGroup<
         requires own { reader.now.group ≡ self.now.core.group.id }
         ensures { ReadyAt R.gives self.now reader.now.generation backend.now result }
     {
-        self.finding(rt, found, reader, backend).ready
-    }
-
-    // Whether a backend is ready for a reader of the words' generation, and whether that was found of the newest membership.
-    #[inline]
-    pub(crate) fn finding<W: Wait>(
-        &self,
-        rt: &W,
-        found: &Found<S, R, C>,
-        reader: &Reader<S>,
-        backend: &Backend,
-    ) -> Finding
-        requires found { (found.now.site ≡ self.now) × (found.now.generation ≡ reader.now.generation) }
-        requires own { reader.now.group ≡ self.now.core.group.id }
-        ensures { FoundAt R.gives self.now reader.now.generation backend.now result.ready result.is_newest }
-    {
         let spread = spread_of(backend);
         match found.said(backend, spread) {
-            Some(finding) if self.is_open() => finding,
+            Some(finding) if self.is_open() => finding.ready,
             _ => self.ask(rt, found, reader, backend),
         }
     }
@@ -490,8 +475,7 @@ impl<S: BackendSelection, R: KeyRule + Drop, C: HealthCheck + Drop> SharedGroup<
         ready
     }
 
-    // Whether group and registry say that a backend is ready for a reader, and whether that is in the newest generation. The words say it
-    // from now on.
+    // Whether group and registry say that a backend is ready for a reader. The words say it from now on.
     #[cold]
     #[inline(never)]
     fn ask<W: Wait>(
@@ -500,10 +484,10 @@ impl<S: BackendSelection, R: KeyRule + Drop, C: HealthCheck + Drop> SharedGroup<
         found: &Found<S, R, C>,
         reader: &Reader<S>,
         backend: &Backend,
-    ) -> Finding
+    ) -> bool
         requires found { (found.now.site ≡ self.now) × (found.now.generation ≡ reader.now.generation) }
         requires own { reader.now.group ≡ self.now.core.group.id }
-        ensures { FoundAt R.gives self.now reader.now.generation backend.now result.ready result.is_newest }
+        ensures { ReadyAt R.gives self.now reader.now.generation backend.now result }
     {
         let registries: &HealthRegistry<R, C> = &*self.registry;
         let _gate = &self.gate;
@@ -512,11 +496,10 @@ impl<S: BackendSelection, R: KeyRule + Drop, C: HealthCheck + Drop> SharedGroup<
         let cells = take_registry(registries, rt);
         let group = held.value.core();
         let ready = group.ready(reader, &cells.value, backend);
-        let is_newest = group.newest() == reader.generation();
         found.note(group, &cells.value, backend);
         put_registry(registries, cells);
         self.lock.put(held);
-        Finding { ready, is_newest }
+        ready
     }
 }
 

@@ -77,6 +77,16 @@ pub(crate) struct Marks {
     pub(crate) readers: AtomicU64,
 }
 
+// What threads go by outside the group's lock: the counters, the lanes and the words of the slots, the lanes of the newest membership,
+// and the numbers.
+struct Places<S: BackendSelection, R: KeyRule + Drop, C> {
+    lines: Vec<SlotCounters>,
+    lanes: Vec<SlotLanes<S, R, C>>,
+    words: Vec<WordsLock<S, R, C>>,
+    newest: Lanes<Newest<S, R, C>>,
+    numbers: GroupNumbers<S>,
+}
+
 /// A group behind a lock, with its registry and its gate, which other groups may share, and its board outside the lock. Contracts see the
 /// board, the group as it was made (which one it is, its gate and its configurations), and the registry as it was made.
 pub struct SharedGroup<S: BackendSelection, R: KeyRule + Drop = Rule<NoRule>, C = BoxedCheck> {
@@ -178,16 +188,18 @@ impl<S: BackendSelection, R: KeyRule + Drop, C: HealthCheck + Drop> SharedGroup<
         ensures refused { IfErr result (λ e. e ≡ Refusal.OutOfMemory) }
     {
         let (watched, board) = Watched::new(alloc, core)?;
-        let lines = lines_of(alloc, board.word_count() - 1)?;
         let key = Snapshot::of(&watched);
         let site = Site::of(&watched, &*registry);
+        let lock = KeyedLock::new(alloc, watched, &key)?;
         let mut seeds = generator;
         let generator = SharedGenerator::new(seeds.next_u64());
-        let lanes = lanes_of(alloc, board.word_count() - 1, &site, &generator)?;
-        let words = words_of(alloc, board.word_count(), &site)?;
-        let newest = Lanes::new(alloc, NEWEST_LANES, &site, &generator)?;
-        let numbers = numbers_of(alloc, board.word_count() - 1, &key)?;
-        let lock = KeyedLock::new(alloc, watched, &key)?;
+        let Places {
+            lines,
+            lanes,
+            words,
+            newest,
+            numbers,
+        } = places_of(alloc, board.word_count() - 1, &site, &key, &generator)?;
         Ok(SharedGroup {
             lock,
             board,
@@ -405,6 +417,36 @@ impl<S: BackendSelection, R: KeyRule + Drop, C: HealthCheck + Drop> SharedGroup<
         let _gate = &self.gate;
         self.loads.set(rt, alloc, backend, load)
     }
+}
+
+// The places of a group of so many slots, of which nothing is noted yet.
+fn places_of<S: BackendSelection, R: KeyRule + Drop, C>(
+    alloc: Global,
+    slots: usize,
+    site: &Site<S, R, C>,
+    group: &Snapshot<Watched<S>>,
+    seeds: &SharedGenerator,
+) -> Result<Places<S, R, C>, Refusal>
+    ensures count { IfOk result (λ p. length p.lines.items ≡ slots) }
+    ensures lanes { IfOk result (λ p. All (λ l. All (λ lane. lane.slot ≡ site.now) l.lanes.items) p.lanes.items) }
+    ensures words { IfOk result (λ p. All (λ f. f.table.shared.key ≡ site.now) p.words.items) }
+    ensures newest { IfOk result (λ p. All (λ lane. lane.slot ≡ site.now) p.newest.lanes.items) }
+    ensures numbers { IfOk result (λ p. p.numbers.words.table.shared.key ≡ group.now) }
+    ensures refused { IfErr result (λ e. e ≡ Refusal.OutOfMemory) }
+{
+    let lines = lines_of(alloc, slots)?;
+    let lanes = lanes_of(alloc, slots, site, seeds)?;
+    // After the words of the slots come those of the newest membership.
+    let words = words_of(alloc, slots.saturating_add(1), site)?;
+    let newest = Lanes::new(alloc, NEWEST_LANES, site, seeds)?;
+    let numbers = numbers_of(alloc, slots, group)?;
+    Ok(Places {
+        lines,
+        lanes,
+        words,
+        newest,
+        numbers,
+    })
 }
 
 // The counters of so many slots.

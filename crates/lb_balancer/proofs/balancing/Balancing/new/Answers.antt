@@ -5,8 +5,8 @@ use Rattle.lb_balancer.specs.History.{BalancerValue}
 use Rattle.lb_balancer.proofs.Served.{none-yet}
 use Rattle.lb_balancer.proofs.balancing.Balancing.new.Goals as goal
 
-pub places_over-requires : goal.places_over-requires
-places_over-requires g c =
+pub begun-requires : goal.begun-requires
+begun-requires g c =
     rw c.new.ensures (record {
       config = c.in_ok-built.ensures.made.1;
       id = sym c.id-view_id.ensures;
@@ -40,26 +40,13 @@ returns-in_err-view g c =
       refused = search rules;
     }
 
-pub returns-in_err-owner : goal.returns-in_err-owner
-returns-in_err-owner g c =
-    let e = c.in_err-owner.field-0.0 in
-    let is : c.from_residual-in_err-owner.result ≡ Err e = search rules in
+pub returns-in_err-made : goal.returns-in_err-made
+returns-in_err-made g c =
+    let e = c.in_err-made.field-0.0 in
+    let is : c.from_residual-in_err-made.result ≡ Err e = search rules in
     record {
       made = search rules;
-      view = lost-with c.from_residual-in_err-owner.result e is (search rules) (λ apart.
-          left-for
-          (has-registered (search rules) c.registered_view.ensures.registered c.in_ok-view.view c.in_ok-view.was c.in_ok-view.view.id
-          refl));
-      refused = search rules;
-    }
-
-pub returns-in_err-places : goal.returns-in_err-places
-returns-in_err-places g c =
-    let e = c.in_err-places.field-0.0 in
-    let is : c.from_residual-in_err-places.result ≡ Err e = search rules in
-    record {
-      made = search rules;
-      view = lost-with c.from_residual-in_err-places.result e is (search rules) (λ apart.
+      view = lost-with c.from_residual-in_err-made.result e is (search rules) (λ apart.
           left-for
           (has-registered (search rules) c.registered_view.ensures.registered c.in_ok-view.view c.in_ok-view.was c.in_ok-view.view.id
           refl));
@@ -69,11 +56,11 @@ returns-in_err-places g c =
 pub returns : goal.returns
 returns g c =
     let Balancer = BalancerValue g.row.D.Denot g.row.S-Config.Denot g.row.R.Denot in
-    let same = ap (λ (b : Balancer). b.view_id) c.behind.ensures ∙ c.id-view_id.ensures in
+    let same = ap (λ (b : Balancer). b.view_id) c.in_ok-made.ensures.made ∙ c.id-view_id.ensures in
     record {
       made = search rules;
-      view = made-with c.behind.result
-          (has-registered (search rules) c.registered_view.ensures.registered c.in_ok-view.view c.in_ok-view.was c.behind.result.view_id
+      view = made-with c.in_ok-made.made
+          (has-registered (search rules) c.registered_view.ensures.registered c.in_ok-view.view c.in_ok-view.was c.in_ok-made.made.view_id
           same);
       refused = search rules;
     }

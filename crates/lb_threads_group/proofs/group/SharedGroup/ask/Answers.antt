@@ -3,7 +3,6 @@ use Rattle.std.proofs.Common.{rules, subst, sym}
 use Rattle.lb_threads_core.proofs.Histories.{at_site}
 use Rattle.lb_threads_core.specs.Registry.{IsRegistryOf}
 use Rattle.lb_threads_group.specs.Group.{IsState}
-use Rattle.lb_threads_group.proofs.Findings.{found-now}
 use Rattle.lb_threads_group.proofs.group.SharedGroup.ask.Goals as goal
 
 pub note-requires-clause-group : goal.note-requires-clause-group
@@ -17,8 +16,13 @@ note-requires-clause-registry g c =
     (at_site (search rules) c.take_registry-cells.ensures.registry)
 
 pub returns : goal.returns
-returns g c =
-    found-now g.R.KeyRule.gives c.args.self.now c.take-held.result.value.core c.take_registry-cells.result.value
-    c.args.reader.now.generation c.generation.result c.newest.result c.args.backend.now c.ready-ready.result
-    (search rules, c.founded.ensures) (at_site (search rules) c.take_registry-cells.ensures.registry)
-    (rw c.core-group.ensures at c.ready-ready.ensures) (rw c.core-group.ensures at c.newest.ensures) c.generation.ensures
+returns g c = (
+  c.take-held.result.value.core,
+  (
+    c.take_registry-cells.result.value,
+    (
+      (search rules, c.founded.ensures),
+      (at_site (search rules) c.take_registry-cells.ensures.registry, rw c.core-group.ensures at c.ready-ready.ensures),
+    ),
+  ),
+)
