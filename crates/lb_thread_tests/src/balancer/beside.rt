@@ -2,7 +2,6 @@
 use crate::balancer::fixtures::{
     Bench, GROWN, InTurn, ROWS, SecondDown, TestedRegistry, UP, is_second, waited,
 };
-use lb_background::lending::LendsToThreads;
 use lb_balancer::reader::BalancerReader;
 use lb_health_core::keys::Rule;
 use lb_select::selection::RoundRobin;
@@ -56,7 +55,7 @@ fn disables_meanwhile<R: Abort + Wait + Clock + Copy + Drop>(
 ) -> bool {
     let came = waited(rt, &bench.line.asked, 1);
     let first = at(rt, bench, "1.0.0.1:80");
-    bench.balancer.flag(rt, &first, false);
+    bench.balancer.backends().set_enable(rt, &first, false);
     bench.line.open.store(1, SeqCst);
     came
 }
@@ -66,10 +65,9 @@ fn ready<R: Abort + Wait + Clock + Copy + Drop>(
     rt: &R,
     bench: &Bench<RoundRobin, R>,
 ) -> (bool, bool) {
-    let balancer = &bench.balancer;
-    let first = balancer.newest_ready(rt, &at(rt, bench, "1.0.0.1:80"));
-    let fourth = balancer.newest_ready(rt, &at(rt, bench, "1.0.0.4:80"));
-    (first, fourth)
+    let backends = bench.balancer.backends();
+    let first = backends.ready(rt, &at(rt, bench, "1.0.0.1:80"));
+    (first, backends.ready(rt, &at(rt, bench, "1.0.0.4:80")))
 }
 
 // What is shown now, whose generation is at least this one, and whether it is of one membership: each selected one is a member of it.

@@ -96,6 +96,7 @@ fn checks<R: Abort + Log + Threads + Wait + Clock + Copy + Send + Sync + Drop>(
     let found = reader.select(rt, alloc, b"k", 1).expect(rt, "refused");
     note(rt, text, &found);
     balancer
+        .backends()
         .run_health_check(rt, alloc, false)
         .expect(rt, "refused");
     write!(text, " checked {}", bench.checks.asked.load(SeqCst)).expect(rt, "refused");
